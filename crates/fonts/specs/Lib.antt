@@ -1,0 +1,3 @@
+pub mod Strike
+pub mod Reading
+pub mod Face

@@ -1,0 +1,80 @@
+-- What a font file is refused for: the paper's "Numbers returned", 1 to 7.
+use Prim.Native.Nat.{ℕ, _+_, _*_, _%_}
+use mathlib.Core.Bool.{Bool, true, false, cond, not, _&&_, _||_}
+use mathlib.Core.List.{List, [], _∷_}
+use lib.Dec.{ltb, eqb}
+use lib.ListN.{length}
+use Rattle.words.specs.Word.{word, bitOf}
+use Rattle.words.specs.Refusal.{firstOf, notWithin}
+use Rattle.words.specs.Place.{placeOfWord}
+use Rattle.fonts.specs.declared.Header.{Header}
+use Rattle.fonts.specs.declared.Reading.{Reading}
+use Rattle.fonts.specs.declared.Reading.the-variants.{Accepted, Refused}
+use Rattle.fonts.specs.Strike.{headerOf, kerned, codes, height, pointersOf, widthsOf, bodySum, fileSum}
+
+-- 1: "fewer than 9 words"
+unfoldable pub tooShort : ℕ → Bool
+tooShort count = ltb count 9
+
+-- 2: "top bit 0, index bit 1, or low twelve bits not zero"
+unfoldable pub badFormat : Header → Bool
+badFormat h = eqb (bitOf (h .format) 0) 0 || eqb (bitOf (h .format) 1) 1 || ltb 0 (h .format % 4096)
+
+-- 1 again: "after 2 is passed, kerned and fewer than 13"
+unfoldable pub kernedTooShort : Header → ℕ → Bool
+kernedTooShort h count = kerned h && ltb count 13
+
+-- 3: "min > max, or max > 255"
+unfoldable pub badCodes : Header → Bool
+badCodes h = ltb (h .max) (h .min) || ltb 255 (h .max)
+
+-- 4: "height not 1..256, raster not 1..4096, xoffset not 0, kerned and FBBox not -255..255"; a place counts from 2048 below zero
+unfoldable pub badSizes : Header → Bool
+badSizes h =
+    notWithin 1 256 (height h) || notWithin 1 4096 (h .raster) || ltb 0 (h .xoffset) || (kerned h && notWithin 1793 2303 (placeOfWord (h .fbbox)))
+
+-- 5: "length word or file length differs from the sums above"
+unfoldable pub badLength : Header → ℕ → Bool
+badLength h count = not (eqb (h .bodywords) (bodySum h)) || not (eqb count (fileSum h))
+
+-- some pointer is smaller than the one before
+unfoldable pub falls : List ℕ → Bool
+falls [] = false
+falls (p ∷ []) = false
+falls (p ∷ q ∷ ps) = ltb q p || falls (q ∷ ps)
+
+-- 6: "a pointer smaller than the one before, or the last over 16 × raster"
+unfoldable pub badPointers : Header → List ℕ → Bool
+badPointers h pointers = falls pointers || ltb (16 * h .raster) (word pointers (codes h + 1))
+
+-- 7: "no dummy: kerned entry FFFF; plain, no columns". The dummy's entry and pointer are those of code max + 1
+unfoldable pub noDummy : Header → List ℕ → List ℕ → Bool
+noDummy h pointers widths =
+    cond (kerned h) (eqb (word widths (codes h)) 0xFFFF) (eqb (word pointers (codes h)) (word pointers (codes h + 1)))
+
+-- the number of a font file's refusal, 0 where it is accepted
+unfoldable pub fontNumber : List ℕ → ℕ
+fontNumber ws =
+    let h = headerOf ws in
+    let pointers = pointersOf h ws in
+    firstOf
+    ((tooShort (length ws), 1)
+    ∷ (badFormat h, 2)
+    ∷ (kernedTooShort h (length ws), 1)
+    ∷ (badCodes h, 3)
+    ∷ (badSizes h, 4)
+    ∷ (badLength h (length ws), 5)
+    ∷ (badPointers h pointers, 6)
+    ∷ (noDummy h pointers (widthsOf h ws), 7)
+    ∷ [])
+
+unfoldable pub accepted : List ℕ → Bool
+accepted ws = eqb (fontNumber ws) 0
+
+unfoldable pub readingOf : List ℕ → Reading
+readingOf ws = cond (accepted ws) (Accepted (headerOf ws)) (Refused (fontNumber ws))
+
+-- the paper's number for each answer
+abbrev pub readingNumber : Reading → ℕ
+readingNumber (Accepted h) = 0
+readingNumber (Refused number) = number

@@ -1,0 +1,55 @@
+-- The pen, and where the dots of a picture land: the paper's "Panel, strips, pen", its second half.
+use Prim.Native.Nat.{ℕ, _+_, _-_, _*_, _/_, _%_}
+use mathlib.Core.Bool.{cond, _&&_}
+use mathlib.Core.List.{List, [], _∷_}
+use lib.Dec.{leb, ltb}
+use lib.IntN.{ℤ}
+use Rattle.words.specs.declared.Effect.{Effect}
+use Rattle.words.specs.declared.Mode.{Mode}
+use Rattle.words.specs.Word.{wordOf}
+use Rattle.words.specs.Place.{placeOf}
+use Rattle.words.specs.Effect.{identity, effectOf, joinOf}
+use Rattle.fonts.specs.declared.Glyph.{Glyph}
+use Rattle.fonts.specs.Face.{Face}
+use Rattle.paint.specs.declared.Shape.{Shape}
+use Rattle.paint.specs.declared.Strip.{Strip}
+use Rattle.paint.specs.declared.Pen.{Pen}
+
+-- "starting pen x in strip columns"
+unfoldable pub penAt : ℤ → Pen
+penAt x = record { place = placeOf x; substitutes = 0 }
+
+-- "Each step of the pen yields a new pen from the old one": over what is shown for one character
+unfoldable pub penAfter : Pen → Glyph → Pen
+penAfter pen g =
+    record { place = pen .place + g .advance; substitutes = pen .substitutes + cond (g .substitute) 1 0 }
+
+-- the pen after a label
+unfoldable pub penAlong : Face → Pen → List ℕ → Pen
+penAlong face pen [] = pen
+penAlong face pen (c ∷ label) = penAlong face (penAfter pen (face .glyph c)) label
+
+-- The dot that a picture puts on a row and column of the panel. "Picture row r lands on panel row y - ascent + r"; its left column goes to
+-- the pen and the glyph's place, in strip columns; "Dots outside the strip or the panel are dropped".
+-- y counts from 2048 above the panel, pen and place together from 4096 left of the strip.
+unfoldable pub mark : Face → Strip → ℕ → Pen → Glyph → ℕ → ℕ → ℕ
+mark face strip y pen g row column =
+    let left = pen .place + g .place in
+    let at = column - strip .from + 4096 in
+    let down = row + 2048 + g .ascent in
+    cond (leb (strip .from) column && ltb column (strip .upto) && leb left at && leb y down)
+    (face .dot g (down - y) (at - left))
+    0
+
+-- the marks of a picture on word i of the panel, which is sixteen columns of one row
+unfoldable pub maskAt : Face → Shape → Strip → ℕ → Pen → Glyph → ℕ → ℕ
+maskAt face s strip y pen g i =
+    wordOf (λ j. mark face strip y pen g (i / s .rowwords) (16 * (i % s .rowwords) + j))
+
+-- "Characters are drawn in order: Paint sets, Erase clears, Invert flips each dot of the picture that is 1. Overlapping characters in
+-- Invert flip twice." What a label does to word i of the panel
+unfoldable pub labelEffect : Face → Shape → Strip → ℕ → Mode → Pen → List ℕ → ℕ → Effect
+labelEffect face s strip y mode pen [] i = identity
+labelEffect face s strip y mode pen (c ∷ label) i =
+    let g = face .glyph c in
+    joinOf (effectOf mode (maskAt face s strip y pen g i)) (labelEffect face s strip y mode (penAfter pen g) label i)

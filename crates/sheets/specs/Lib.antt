@@ -1,0 +1,3 @@
+pub mod Sheet
+pub mod Calls
+pub mod Cases

@@ -1,0 +1,1 @@
+// Sheets: what labels do to a panel, gathered, joined and applied later.

@@ -1,0 +1,10 @@
+-- All the definitions of this crate and of those below it, opened at once, so that a worked case computes: `unfolding computing`.
+use Rattle.words.specs.Word.{bitOf, wordTo, wordOf, wordsOf, bytesOf, oddBytes, table, over}
+use Rattle.words.specs.Search.{someBelow, firstBelow, lastBelow, sumBelow, mostBelow}
+use Rattle.words.specs.Refusal.{firstOf, orElse, notWithin}
+use Rattle.words.specs.Place.{outside, placeOf, numberAt, placeOfWord}
+use Rattle.words.specs.Effect.{modeOf}
+
+unfoldable pub computing : Unit {0}
+unfolding bitOf wordTo wordOf wordsOf bytesOf oddBytes table over someBelow firstBelow lastBelow sumBelow mostBelow firstOf orElse notWithin outside placeOf numberAt placeOfWord modeOf
+computing = tt

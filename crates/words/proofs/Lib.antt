@@ -1,0 +1,6 @@
+pub mod Compute
+pub mod Chain
+pub mod Digits
+pub mod BitLaws
+pub mod Effects
+pub mod Outcomes

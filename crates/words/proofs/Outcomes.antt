@@ -1,0 +1,51 @@
+-- Two outcomes that a contract permits are equal: for the same arguments, whatever replies meet what a function ensures are one reply.
+use Prim.Native.Nat.{ℕ}
+use mathlib.Core.Path.{_≡_, sym, _∙_}
+use mathlib.Core.List.{List}
+use contract.Lifetimes.{Lfts}
+use denote.Triple.Clauses.{AtExit}
+use borrow.Fn.Kinds.{PK, RK, Dens, resT, Out, endedOf}
+use Rattle.words.proofs.Mode.of as mode-of
+use Rattle.words.proofs.Effect.new as new
+use Rattle.words.proofs.Effect.identity as identity
+use Rattle.words.proofs.Effect.paint as paint
+use Rattle.words.proofs.Effect.erase as erase
+use Rattle.words.proofs.Effect.invert as invert
+use Rattle.words.proofs.Effect.of as effect-of
+use Rattle.words.proofs.Effect.join as join
+use Rattle.words.proofs.Effect.apply as apply
+
+-- what a function ensures determines its reply
+abbrev pub OneReply : (n : ℕ) (ps : List (PK n)) (r : RK n) → Out n ps r → Type 0
+OneReply n ps r Ensured =
+    (κs : Lfts n) (arguments : Dens κs ps) (reply other : resT r κs .Denot) (after after′ : AtExit (endedOf n ps r) κs)
+    → Ensured κs arguments reply after
+    → Ensured κs arguments other after′
+    → reply ≡ other
+
+pub mode-of-one : OneReply 0 mode-of.Kinds.ps mode-of.Kinds.r mode-of.Reads.Post
+mode-of-one κs a r o e e′ p q = p ∙ sym q
+
+pub new-one : OneReply 0 new.Kinds.ps new.Kinds.r new.Reads.Post
+new-one κs a r o e e′ p q = p ∙ sym q
+
+pub identity-one : OneReply 0 identity.Kinds.ps identity.Kinds.r identity.Reads.Post
+identity-one κs a r o e e′ p q = p ∙ sym q
+
+pub paint-one : OneReply 0 paint.Kinds.ps paint.Kinds.r paint.Reads.Post
+paint-one κs a r o e e′ p q = p ∙ sym q
+
+pub erase-one : OneReply 0 erase.Kinds.ps erase.Kinds.r erase.Reads.Post
+erase-one κs a r o e e′ p q = p ∙ sym q
+
+pub invert-one : OneReply 0 invert.Kinds.ps invert.Kinds.r invert.Reads.Post
+invert-one κs a r o e e′ p q = p ∙ sym q
+
+pub effect-of-one : OneReply 0 effect-of.Kinds.ps effect-of.Kinds.r effect-of.Reads.Post
+effect-of-one κs a r o e e′ p q = p ∙ sym q
+
+pub join-one : OneReply 0 join.Kinds.ps join.Kinds.r join.Reads.Post
+join-one κs a r o e e′ p q = p ∙ sym q
+
+pub apply-one : OneReply 0 apply.Kinds.ps apply.Kinds.r apply.Reads.Post
+apply-one κs a r o e e′ p q = p ∙ sym q

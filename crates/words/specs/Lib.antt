@@ -1,0 +1,5 @@
+pub mod Word
+pub mod Search
+pub mod Refusal
+pub mod Place
+pub mod Effect

@@ -1,0 +1,24 @@
+-- Places with a sign. A place is counted from 2048 dots below zero, so that every place a call can name is a plain number:
+-- x and y are at least -1024, FBBox is at least -255, and a pen never goes left.
+use Prim.Native.Nat.{ℕ, suc, _+_, _-_, _%_}
+use mathlib.Core.Bool.{Bool, cond}
+use lib.Dec.{leb, ltb}
+use lib.IntN.{ℤ, pos, negsuc}
+
+-- refusal 10: "x or y not -1024..1023"
+unfoldable pub outside : ℤ → Bool
+outside (pos n) = ltb 1023 n
+outside (negsuc n) = ltb 1023 n
+
+-- the place of x or y
+unfoldable pub placeOf : ℤ → ℕ
+placeOf (pos n) = 2048 + n
+placeOf (negsuc n) = 2048 - suc n
+
+-- the number that a place stands for
+unfoldable pub numberAt : ℕ → ℤ
+numberAt place = cond (leb 2048 place) (pos (place - 2048)) (negsuc (2047 - place))
+
+-- the place of a word in two's complement, for a word from -2048 to 2047
+unfoldable pub placeOfWord : ℕ → ℕ
+placeOfWord w = (w + 2048) % 65536

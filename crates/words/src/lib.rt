@@ -1,0 +1,96 @@
+// Effects on a word of dots: what painting does to it, as a value that can be applied, joined and kept in a sheet.
+ghost use mathlib.Core.Path.{_≡_};
+ghost use Rattle.words.specs.Effect.{effect, identity, paintOf, eraseOf, invertOf, effectOf, modeOf, joinOf, applyTo};
+
+// How the dots of a picture change the dots of the panel.
+pub enum Mode {
+    Paint,
+    Erase,
+    Invert,
+}
+
+impl Mode {
+    // 0 Paint, 1 Erase, 2 Invert. A number over 2 is refused by whoever is handed it, and counts as Invert here.
+    pub fn of(number: u32) -> Mode
+        ensures { λ r. ⌜ r ≡ modeOf number ⌝ }
+    {
+        if number == 0 {
+            return Mode::Paint;
+        }
+        if number == 1 {
+            return Mode::Erase;
+        }
+        Mode::Invert
+    }
+}
+
+// Applied to a word d, it leaves (d AND keep) XOR flip.
+pub struct Effect {
+    pub keep: u16,
+    pub flip: u16,
+}
+
+impl Effect {
+    // The effect that alters nothing.
+    pub const IDENTITY: Effect = Effect {
+        keep: 0xFFFF,
+        flip: 0,
+    };
+
+    pub fn new(keep: u16, flip: u16) -> Effect
+        ensures { λ r. ⌜ r ≡ effect keep flip ⌝ }
+    {
+        Effect { keep, flip }
+    }
+
+    pub fn identity() -> Effect
+        ensures { λ r. ⌜ r ≡ identity ⌝ }
+    {
+        Effect::IDENTITY
+    }
+
+    // Sets the dots of the mask.
+    pub fn paint(mask: u16) -> Effect
+        ensures { λ r. ⌜ r ≡ paintOf mask ⌝ }
+    {
+        Effect::new(0xFFFF - mask, mask)
+    }
+
+    // Clears the dots of the mask.
+    pub fn erase(mask: u16) -> Effect
+        ensures { λ r. ⌜ r ≡ eraseOf mask ⌝ }
+    {
+        Effect::new(0xFFFF - mask, 0)
+    }
+
+    // Flips the dots of the mask.
+    pub fn invert(mask: u16) -> Effect
+        ensures { λ r. ⌜ r ≡ invertOf mask ⌝ }
+    {
+        Effect::new(0xFFFF, mask)
+    }
+
+    // What the mode does to the dots of the mask.
+    pub fn of(mode: Mode, mask: u16) -> Effect
+        ensures { λ r. ⌜ r ≡ effectOf mode mask ⌝ }
+    {
+        match mode {
+            Mode::Paint => Effect::paint(mask),
+            Mode::Erase => Effect::erase(mask),
+            Mode::Invert => Effect::invert(mask),
+        }
+    }
+
+    // This effect, and then the other.
+    pub fn join(self, then: Effect) -> Effect
+        ensures { λ r. ⌜ r ≡ joinOf self then ⌝ }
+    {
+        Effect::new(self.keep & then.keep, (self.flip & then.keep) ^ then.flip)
+    }
+
+    pub fn apply(self, word: u16) -> u16
+        ensures { λ r. ⌜ r ≡ applyTo self word ⌝ }
+    {
+        (word & self.keep) ^ self.flip
+    }
+}
