@@ -11,7 +11,7 @@ use Rattle.paint.specs.declared.Shape.{Shape}
 use Rattle.paint.specs.declared.Reply.{Reply}
 use Rattle.paint.specs.declared.Reply.the-variants.{Done, Refused}
 use Rattle.paint.specs.Label.{Call, replyOf, paintAfter}
-use Rattle.sheets.specs.Sheet.{Sheet, freshAfter}
+use Rattle.sheets.specs.Sheet.{Sheet, freshAfter, joinAfter, applyAfter}
 use Rattle.sheets.specs.Calls.{gatherAll}
 
 -- what a case does, and what comes of it
@@ -19,11 +19,14 @@ pub data Deed : Type 0 where
   convert : List ℕ → Deed
   paint : Call → Deed
   gather : List Call → Deed
+  join : List Call → List Call → Deed
+  apply : List Call → Deed
 
 pub data Outcome : Type 0 where
   prints : List ℕ → Outcome
   paints : Reply → List ℕ → Outcome
   gathers : List ℕ → List ℕ → Outcome
+  applies : List ℕ → Outcome
 
 -- "R = 8, H = 3, W = 4, an all-zero panel"
 abbrev pub shape : Shape
@@ -37,10 +40,15 @@ words (w ∷ ws) other = set (words ws other) (w .0) (w .1)
 abbrev pub lent : Sheet
 lent = record { keep = replicate 24 0x1234; flip = replicate 24 0x5678 }
 
+unfoldable pub sheetFrom : List Call → Sheet
+sheetFrom calls = gatherAll shape calls (freshAfter shape lent)
+
 unfoldable pub done : Deed → Outcome
 done (convert bytes) = prints (programOutput bytes)
 done (paint call) = paints (replyOf shape (24 ∷ []) call) (paintAfter shape call (words [] 0))
-done (gather calls) = let sheet = gatherAll shape calls (freshAfter shape lent) in gathers (sheet .keep) (sheet .flip)
+done (gather calls) = let sheet = sheetFrom calls in gathers (sheet .keep) (sheet .flip)
+done (join calls more) = let sheet = joinAfter shape (sheetFrom calls) (sheetFrom more) in gathers (sheet .keep) (sheet .flip)
+done (apply calls) = applies (applyAfter shape (sheetFrom calls) (words [] 0xFFFF))
 
 -- "CU, hexadecimal: 0003 0001; 0041 0004 2000 5000 0000; 0042 0000 0000 8000 8000; 0044 0002 0000 0000 0000."
 unfoldable pub smallCu : List ℕ
@@ -93,12 +101,22 @@ cases =
     )
     ∷ []
 
--- "Clipping to the panel in place of the strip": strip 31 ends where the panel ends and strip 0 begins where it begins, so C5 and C6 do
--- not tell the two apart. The same labels one strip further in do.
+-- Two errors that those let pass. "Clipping to the panel in place of the strip": strip 31 ends where the panel ends and strip 0 begins
+-- where it begins, so C5 and C6 do not tell the two apart. "Joining sheets in the wrong order": C10 joins no two sheets.
 unfoldable pub moreCases : List (Deed × Outcome)
 moreCases =
-    -- as C5, in strip 30: the last dot but one and the last would fall into strip 31
+    -- as C5, in strip 30: the picture's last dots would fall into strip 31
     (paint (label 30 (pos 3) 0 (65 ∷ [])), paints (Done (pos 7) 0) (words ((15, 0x0010) ∷ []) 0))
-    -- as C6, in strip 1: the dots would fall into strip 0
+    -- as C6, in strip 1: its dots would fall into strip 0
     ∷ (paint (label 1 (negsuc 2) 0 (65 ∷ [])), paints (Done (pos 1) 0) zeros)
+    -- as C10, cut in two: the sheet of Paint 66, joined by that of Erase 66
+    ∷ (
+      join (label 31 (pos 1) 0 (66 ∷ []) ∷ []) (label 31 (pos 1) 1 (66 ∷ []) ∷ []),
+      gathers (words ((15, 0xFFF7) ∷ (23, 0xFFF7) ∷ []) 0xFFFF) zeros,
+    )
+    -- and the sheet of C10, applied to a panel of ones
+    ∷ (
+      apply (label 31 (pos 1) 0 (66 ∷ []) ∷ label 31 (pos 1) 1 (66 ∷ []) ∷ []),
+      applies (words ((15, 0xFFF7) ∷ (23, 0xFFF7) ∷ []) 0xFFFF),
+    )
     ∷ []
