@@ -5,7 +5,7 @@ use mathlib.Core.List.{List, [], _∷_}
 use lib.Dec.{ltb, eqb}
 use lib.ListN.{length}
 use Rattle.words.specs.Word.{word, bitOf}
-use Rattle.words.specs.Refusal.{firstOf, notWithin}
+use Rattle.words.specs.Refusal.{firstOf, orElse, notWithin}
 use Rattle.words.specs.Place.{placeOfWord}
 use Rattle.fonts.specs.declared.Header.{Header}
 use Rattle.fonts.specs.declared.Reading.{Reading}
@@ -28,45 +28,51 @@ kernedTooShort h count = kerned h && ltb count 13
 unfoldable pub badCodes : Header → Bool
 badCodes h = ltb (h .max) (h .min) || ltb 255 (h .max)
 
--- 4: "height not 1..256, raster not 1..4096, xoffset not 0, kerned and FBBox not -255..255"; a place counts from 2048 below zero
+-- 4: "kerned and FBBox not -255..255"; a place counts from 2048 below zero
+unfoldable pub badBox : Header → Bool
+badBox h = kerned h && notWithin 1793 2303 (placeOfWord (h .fbbox))
+
+-- 4: "height not 1..256, raster not 1..4096, xoffset not 0", or the box
 unfoldable pub badSizes : Header → Bool
-badSizes h =
-    notWithin 1 256 (height h) || notWithin 1 4096 (h .raster) || ltb 0 (h .xoffset) || (kerned h && notWithin 1793 2303 (placeOfWord (h .fbbox)))
+badSizes h = notWithin 1 256 (height h) || notWithin 1 4096 (h .raster) || ltb 0 (h .xoffset) || badBox h
 
 -- 5: "length word or file length differs from the sums above"
 unfoldable pub badLength : Header → ℕ → Bool
 badLength h count = not (eqb (h .bodywords) (bodySum h)) || not (eqb count (fileSum h))
 
--- some pointer is smaller than the one before
-unfoldable pub falls : List ℕ → Bool
-falls [] = false
-falls (p ∷ []) = false
-falls (p ∷ q ∷ ps) = ltb q p || falls (q ∷ ps)
+-- some pointer is smaller than the one before, and the first than `before`
+unfoldable pub fallsFrom : ℕ → List ℕ → Bool
+fallsFrom before [] = false
+fallsFrom before (p ∷ pointers) = ltb p before || fallsFrom p pointers
 
 -- 6: "a pointer smaller than the one before, or the last over 16 × raster"
 unfoldable pub badPointers : Header → List ℕ → Bool
-badPointers h pointers = falls pointers || ltb (16 * h .raster) (word pointers (codes h + 1))
+badPointers h pointers = fallsFrom 0 pointers || ltb (16 * h .raster) (word pointers (codes h + 1))
 
 -- 7: "no dummy: kerned entry FFFF; plain, no columns". The dummy's entry and pointer are those of code max + 1
 unfoldable pub noDummy : Header → List ℕ → List ℕ → Bool
 noDummy h pointers widths =
     cond (kerned h) (eqb (word widths (codes h)) 0xFFFF) (eqb (word pointers (codes h)) (word pointers (codes h + 1)))
 
+unfoldable pub headerNumber : Header → ℕ → ℕ
+headerNumber h count =
+    firstOf
+    ((tooShort count, 1)
+    ∷ (badFormat h, 2)
+    ∷ (kernedTooShort h count, 1)
+    ∷ (badCodes h, 3)
+    ∷ (badSizes h, 4)
+    ∷ (badLength h count, 5)
+    ∷ [])
+
+unfoldable pub tableNumber : Header → List ℕ → List ℕ → ℕ
+tableNumber h pointers widths = firstOf ((badPointers h pointers, 6) ∷ (noDummy h pointers widths, 7) ∷ [])
+
 -- the number of a font file's refusal, 0 where it is accepted
 unfoldable pub fontNumber : List ℕ → ℕ
 fontNumber ws =
     let h = headerOf ws in
-    let pointers = pointersOf h ws in
-    firstOf
-    ((tooShort (length ws), 1)
-    ∷ (badFormat h, 2)
-    ∷ (kernedTooShort h (length ws), 1)
-    ∷ (badCodes h, 3)
-    ∷ (badSizes h, 4)
-    ∷ (badLength h (length ws), 5)
-    ∷ (badPointers h pointers, 6)
-    ∷ (noDummy h pointers (widthsOf h ws), 7)
-    ∷ [])
+    orElse (headerNumber h (length ws)) (tableNumber h (pointersOf h ws) (widthsOf h ws))
 
 unfoldable pub accepted : List ℕ → Bool
 accepted ws = eqb (fontNumber ws) 0

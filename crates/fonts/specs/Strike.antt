@@ -33,25 +33,25 @@ headerOf ws =
       raster = word ws (body + 4);
     }
 
-unfoldable pub kerned : Header → Bool
+abbrev pub kerned : Header → Bool
 kerned h = kernedFormat (h .format)
 
 -- "Let n = max - min + 1 and height = ascent + descent."
-unfoldable pub codes : Header → ℕ
+abbrev pub codes : Header → ℕ
 codes h = h .max - h .min + 1
 
-unfoldable pub height : Header → ℕ
+abbrev pub height : Header → ℕ
 height h = h .ascent + h .descent
 
 -- "from 13 the bitmap, raster × height words"; in a plain file "the bitmap from word 9"
 unfoldable pub bitmapAt : Header → ℕ
 bitmapAt h = cond (kerned h) 13 9
 
-unfoldable pub bitmapWords : Header → ℕ
+abbrev pub bitmapWords : Header → ℕ
 bitmapWords h = h .raster * height h
 
 -- "then n + 2 column pointers for min to max + 2": the part of the file that begins after the bitmap
-unfoldable pub pointersAt : Header → ℕ
+abbrev pub pointersAt : Header → ℕ
 pointersAt h = bitmapAt h + bitmapWords h
 
 unfoldable pub pointersOf : Header → List ℕ → List ℕ
@@ -62,7 +62,7 @@ unfoldable pub widthsOf : Header → List ℕ → List ℕ
 widthsOf h ws = take (codes h + 1) (drop (pointersAt h + codes h + 2) ws)
 
 -- "Length counts the body's words, itself included: raster × height + n + 7."
-unfoldable pub bodySum : Header → ℕ
+abbrev pub bodySum : Header → ℕ
 bodySum h = bitmapWords h + codes h + 7
 
 -- "In all raster × height + 2n + 16 words"; plain, "raster × height + n + 11 words"

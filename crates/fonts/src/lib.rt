@@ -1,4 +1,11 @@
 // Reading PlainStrike and KernedStrike files: what a file is refused for, and what it shows for a code.
+ghost use mathlib.Core.Path.{_≡_};
+ghost use Prim.Native.Nat.{_≤_};
+ghost use mathlib.Core.Bool.{cond};
+ghost use Rattle.words.specs.Word.{word};
+ghost use Rattle.fonts.specs.Strike.{kernedFormat, bodyAt, headerOf, kerned, codes, height, bitmapAt, bitmapWords, pointersAt, pointersOf, widthsOf, bodySum, fileSum};
+ghost use Rattle.fonts.specs.Reading.{badFormat, kernedTooShort, badCodes, badBox, badSizes, badLength, fallsFrom, badPointers, noDummy, headerNumber, tableNumber, fontNumber, readingOf};
+ghost use Rattle.fonts.specs.Face.{existsAt, exists, shownAt, columnsAt, placeAt, advanceAt, glyphFrom, dotOf, dotsOf, rowOf};
 
 // The words that stand before a strike's bitmap and that the reader looks at. A plain file has no box, and its fbbox is 0.
 pub struct Header {
@@ -22,18 +29,302 @@ pub enum Reading {
 // What a font shows for a code.
 pub struct Glyph {
     // Where its strike's bitmap begins in the file, and the words of one row of it.
-    pub bitmap: usize,
-    pub raster: usize,
+    pub bitmap: u32,
+    pub raster: u16,
     // The picture: its first column in the strike, and how many.
-    pub first: usize,
-    pub columns: usize,
+    pub first: u16,
+    pub columns: u16,
     // Its rows: how many of them stand above the baseline, and how many in all.
-    pub ascent: usize,
-    pub height: usize,
+    pub ascent: u16,
+    pub height: u32,
     // Where the left column goes, from the pen, counted from 2048 dots to its left.
-    pub place: usize,
+    pub place: u32,
     // How far the pen moves.
-    pub advance: usize,
+    pub advance: u16,
     // The dummy stands in for a code that does not exist.
     pub substitute: bool,
+}
+
+fn kerned_format(format: u16) -> bool
+    ensures { λ r. ⌜ r ≡ kernedFormat format ⌝ }
+{
+    words::bit(format, 3) == 1
+}
+
+fn body_at(format: u16) -> usize
+    ensures { λ r. ⌜ r ≡ bodyAt format ⌝ }
+    ensures small { λ r. ⌜ r ≤ 8 ⌝ }
+{
+    if kerned_format(format) {
+        return 8;
+    }
+    4
+}
+
+// The box word, where there is one.
+fn fbbox_of(font: &[u16], format: u16) -> u16
+    ensures { λ r. ⌜ r ≡ cond (kernedFormat format) (word (now (font .entry)) 4) 0 ⌝ }
+{
+    if kerned_format(format) {
+        return words::word_at(font, 4);
+    }
+    0
+}
+
+impl Header {
+    pub fn of(font: &[u16]) -> Header
+        ensures { λ r. ⌜ r ≡ headerOf (now (font .entry)) ⌝ }
+    {
+        let format = words::word_at(font, 0);
+        let body = body_at(format);
+        Header {
+            format,
+            min: words::word_at(font, 1),
+            max: words::word_at(font, 2),
+            fbbox: fbbox_of(font, format),
+            bodywords: words::word_at(font, body),
+            ascent: words::word_at(font, body + 1),
+            descent: words::word_at(font, body + 2),
+            xoffset: words::word_at(font, body + 3),
+            raster: words::word_at(font, body + 4),
+        }
+    }
+
+    pub fn kerned(self) -> bool
+        ensures { λ r. ⌜ r ≡ kerned self ⌝ }
+    {
+        kerned_format(self.format)
+    }
+
+    // n, the number of codes from min to max; 1 where min is past max, which 3 refuses.
+    pub fn codes(self) -> usize
+        ensures { λ r. ⌜ r ≡ codes self ⌝ }
+    {
+        if self.max < self.min {
+            return 1;
+        }
+        (self.max - self.min) as usize + 1
+    }
+
+    pub fn height(self) -> usize
+        ensures { λ r. ⌜ r ≡ height self ⌝ }
+    {
+        self.ascent as usize + self.descent as usize
+    }
+
+    pub fn bitmap_at(self) -> usize
+        ensures { λ r. ⌜ r ≡ bitmapAt self ⌝ }
+        ensures small { λ r. ⌜ r ≤ 13 ⌝ }
+    {
+        if self.kerned() {
+            return 13;
+        }
+        9
+    }
+
+    pub fn bitmap_words(self) -> usize
+        ensures { λ r. ⌜ r ≡ bitmapWords self ⌝ }
+        ensures small { λ r. ⌜ r ≤ 8589672450 ⌝ }
+    {
+        self.raster as usize * self.height()
+    }
+
+    pub fn pointers_at(self) -> usize
+        ensures { λ r. ⌜ r ≡ pointersAt self ⌝ }
+        ensures small { λ r. ⌜ r ≤ 8589672463 ⌝ }
+    {
+        self.bitmap_at() + self.bitmap_words()
+    }
+
+    // What the length word must be.
+    fn body_sum(self) -> usize
+        ensures { λ r. ⌜ r ≡ bodySum self ⌝ }
+    {
+        self.bitmap_words() + self.codes() + 7
+    }
+
+    // How many words the file must have.
+    fn file_sum(self) -> usize
+        ensures { λ r. ⌜ r ≡ fileSum self ⌝ }
+    {
+        if self.kerned() {
+            return self.bitmap_words() + 2 * self.codes() + 16;
+        }
+        self.bitmap_words() + self.codes() + 11
+    }
+}
+
+// The column pointers: the part of the file that begins after the bitmap.
+pub fn pointers(font: &[u16], h: Header) -> &[u16]
+    ensures { λ r. ⌜ now r ≡ pointersOf h (now (font .entry)) ⌝ }
+{
+    words::part(font, h.pointers_at(), h.codes() + 2)
+}
+
+// The width entries: the part of the file after the column pointers.
+pub fn widths(font: &[u16], h: Header) -> &[u16]
+    ensures { λ r. ⌜ now r ≡ widthsOf h (now (font .entry)) ⌝ }
+{
+    words::part(font, h.pointers_at() + h.codes() + 2, h.codes() + 1)
+}
+
+fn bad_format(h: Header) -> bool
+    ensures { λ r. ⌜ r ≡ badFormat h ⌝ }
+{
+    if words::bit(h.format, 0) == 0 {
+        return true;
+    }
+    if words::bit(h.format, 1) == 1 {
+        return true;
+    }
+    0 < h.format % 4096
+}
+
+fn kerned_too_short(h: Header, count: usize) -> bool
+    ensures { λ r. ⌜ r ≡ kernedTooShort h count ⌝ }
+{
+    if h.kerned() {
+        return count < 13;
+    }
+    false
+}
+
+fn bad_codes(h: Header) -> bool
+    ensures { λ r. ⌜ r ≡ badCodes h ⌝ }
+{
+    if h.max < h.min {
+        return true;
+    }
+    255 < h.max
+}
+
+fn bad_box(h: Header) -> bool
+    ensures { λ r. ⌜ r ≡ badBox h ⌝ }
+{
+    if h.kerned() {
+        return words::not_within(1793, 2303, words::place_of_word(h.fbbox));
+    }
+    false
+}
+
+fn bad_sizes(h: Header) -> bool
+    ensures { λ r. ⌜ r ≡ badSizes h ⌝ }
+{
+    if words::not_within(1, 256, h.height()) {
+        return true;
+    }
+    if words::not_within(1, 4096, h.raster as usize) {
+        return true;
+    }
+    if 0 < h.xoffset {
+        return true;
+    }
+    bad_box(h)
+}
+
+fn bad_length(h: Header, count: usize) -> bool
+    ensures { λ r. ⌜ r ≡ badLength h count ⌝ }
+{
+    if h.bodywords as usize != h.body_sum() {
+        return true;
+    }
+    if count != h.file_sum() {
+        return true;
+    }
+    false
+}
+
+// What a file is refused for by its header and its length alone.
+fn header_number(h: Header, count: usize) -> u32
+    ensures { λ r. ⌜ r ≡ headerNumber h count ⌝ }
+{
+    if count < 9 {
+        return 1;
+    }
+    if bad_format(h) {
+        return 2;
+    }
+    if kerned_too_short(h, count) {
+        return 1;
+    }
+    if bad_codes(h) {
+        return 3;
+    }
+    if bad_sizes(h) {
+        return 4;
+    }
+    if bad_length(h, count) {
+        return 5;
+    }
+    0
+}
+
+fn falls(pointers: &[u16]) -> bool
+    ensures { λ r. ⌜ r ≡ fallsFrom 0 (now (pointers .entry)) ⌝ }
+{
+    let mut before = 0;
+    let mut i = 0;
+    while i < pointers.len() {
+        let pointer = pointers[i];
+        if pointer < before {
+            return true;
+        }
+        before = pointer;
+        i += 1;
+    }
+    false
+}
+
+fn bad_pointers(h: Header, pointers: &[u16]) -> bool
+    ensures { λ r. ⌜ r ≡ badPointers h (now (pointers .entry)) ⌝ }
+{
+    if falls(pointers) {
+        return true;
+    }
+    16 * (h.raster as usize) < words::word_at(pointers, h.codes() + 1) as usize
+}
+
+fn no_dummy(h: Header, pointers: &[u16], widths: &[u16]) -> bool
+    ensures { λ r. ⌜ r ≡ noDummy h (now (pointers .entry)) (now (widths .entry)) ⌝ }
+{
+    let n = h.codes();
+    if h.kerned() {
+        return words::word_at(widths, n) == 0xFFFF;
+    }
+    words::word_at(pointers, n) == words::word_at(pointers, n + 1)
+}
+
+// What a file is refused for by its two tables.
+fn table_number(h: Header, pointers: &[u16], widths: &[u16]) -> u32
+    ensures { λ r. ⌜ r ≡ tableNumber h (now (pointers .entry)) (now (widths .entry)) ⌝ }
+{
+    if bad_pointers(h, pointers) {
+        return 6;
+    }
+    if no_dummy(h, pointers, widths) {
+        return 7;
+    }
+    0
+}
+
+// The number of a font file's refusal; 0 where it is accepted.
+pub fn number(font: &[u16]) -> u32
+    ensures { λ r. ⌜ r ≡ fontNumber (now (font .entry)) ⌝ }
+{
+    let h = Header::of(font);
+    let first = header_number(h, font.len());
+    if first != 0 {
+        return first;
+    }
+    table_number(h, pointers(font, h), widths(font, h))
+}
+
+pub fn read(font: &[u16]) -> Reading
+    ensures { λ r. ⌜ r ≡ readingOf (now (font .entry)) ⌝ }
+{
+    let refusal = number(font);
+    if refusal != 0 {
+        return Reading::Refused(refusal);
+    }
+    Reading::Accepted(Header::of(font))
 }

@@ -2,5 +2,6 @@ pub mod Compute
 pub mod Chain
 pub mod Digits
 pub mod BitLaws
+pub mod Lists
 pub mod Effects
 pub mod Outcomes

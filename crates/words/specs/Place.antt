@@ -20,5 +20,5 @@ unfoldable pub numberAt : ℕ → ℤ
 numberAt place = cond (leb 2048 place) (pos (place - 2048)) (negsuc (2047 - place))
 
 -- the place of a word in two's complement, for a word from -2048 to 2047
-unfoldable pub placeOfWord : ℕ → ℕ
+abbrev pub placeOfWord : ℕ → ℕ
 placeOfWord w = (w + 2048) % 65536

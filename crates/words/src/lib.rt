@@ -1,5 +1,10 @@
-// Effects on a word of dots: what painting does to it, as a value that can be applied, joined and kept in a sheet.
+// Words of lent memory and their bits, and effects on a word of dots: what painting does to it, as a value that can be applied, joined
+// and kept in a sheet.
 ghost use mathlib.Core.Path.{_≡_};
+ghost use lib.ListN.{take, drop};
+ghost use Rattle.words.specs.Word.{word, bitOf};
+ghost use Rattle.words.specs.Refusal.{notWithin};
+ghost use Rattle.words.specs.Place.{placeOfWord};
 ghost use Rattle.words.specs.Effect.{effect, identity, paintOf, eraseOf, invertOf, effectOf, modeOf, joinOf, applyTo};
 
 // How the dots of a picture change the dots of the panel.
@@ -93,4 +98,55 @@ impl Effect {
     {
         (word & self.keep) ^ self.flip
     }
+}
+
+// Word i of a list; 0 past its end.
+pub fn word_at(list: &[u16], i: usize) -> u16
+    ensures { λ r. ⌜ r ≡ word (now (list .entry)) i ⌝ }
+{
+    if i < list.len() {
+        return list[i];
+    }
+    0
+}
+
+// Bit j of a word, for j from 0, the most significant, to 15.
+pub fn bit(w: u16, j: usize) -> u16
+    ensures { λ r. ⌜ r ≡ bitOf w j ⌝ }
+{
+    if 15 < j {
+        return w % 2;
+    }
+    (w >> (15 - j)) % 2
+}
+
+// The count words from `from` on, as a part of the list; fewer where it ends before.
+pub fn part(list: &[u16], from: usize, count: usize) -> &[u16]
+    ensures { λ r. ⌜ now r ≡ take count (drop from (now (list .entry))) ⌝ }
+{
+    let length = list.len();
+    if length <= from {
+        return &list[..0];
+    }
+    if length - from <= count {
+        return &list[from..];
+    }
+    &list[from..from + count]
+}
+
+// A number is not from least to most.
+pub fn not_within(least: usize, most: usize, n: usize) -> bool
+    ensures { λ r. ⌜ r ≡ notWithin least most n ⌝ }
+{
+    if n < least {
+        return true;
+    }
+    most < n
+}
+
+// The place of a word in two's complement, counted from 2048 below zero.
+pub fn place_of_word(w: u16) -> usize
+    ensures { λ r. ⌜ r ≡ placeOfWord w ⌝ }
+{
+    (w as usize + 2048) % 65536
 }

@@ -1,0 +1,28 @@
+-- `fonts::bad_format` meets its contract, by the tests that it makes.
+-- Assumes nothing.
+use borrow.Author.Needs.{needs}
+use Rattle.fonts.specs.Reading.{badFormat}
+use Rattle.words.proofs.Chain.{chain, as-chain}
+use Rattle.fonts.proofs.bad_format.Statement.{statement}
+use Rattle.fonts.proofs.bad_format.Tie as tie
+
+bit-requires : tie.Need-bit-requires
+bit-requires c κs = search needs
+
+returns : tie.Need-returns
+unfolding badFormat
+returns c = as-chain (search chain depth 20)
+
+bit-requires-2 : tie.Need-bit-requires-2
+bit-requires-2 c κs = search needs
+
+returns-2 : tie.Need-returns-2
+unfolding badFormat
+returns-2 c = as-chain (search chain depth 20)
+
+returns-3 : tie.Need-returns-3
+unfolding badFormat
+returns-3 c = as-chain (search chain depth 20)
+
+pub bad-format-spec : {M : Type 1} → statement M
+bad-format-spec = tie.close (tie.spec bit-requires returns bit-requires-2 returns-2 returns-3)

@@ -1,0 +1,64 @@
+//! Lists made at random from a seed, the same on every platform.
+
+pub mod cu_files;
+mod cu_scenes;
+pub mod font_files;
+mod font_scenes;
+pub mod label_calls;
+mod label_scenes;
+pub mod random;
+mod scene;
+mod sheet_scenes;
+
+use std::io::{self, Write};
+
+use random::Random;
+use scene::Scene;
+
+/// Makes the commands of one scene; the number lets a maker go through its special cases in
+/// turn, so that a list of moderate length holds all of them.
+trait Scenes {
+    fn next(&mut self, random: &mut Random, number: usize) -> Scene;
+}
+
+#[derive(Debug, Clone, Copy, PartialEq, Eq)]
+pub enum Kind {
+    Fonts,
+    Labels,
+    Sheets,
+    Cu,
+}
+
+impl Kind {
+    #[cfg(test)]
+    pub const ALL: [Kind; 4] = [Kind::Fonts, Kind::Labels, Kind::Sheets, Kind::Cu];
+
+    pub fn named(name: &str) -> Option<Kind> {
+        match name {
+            "fonts" => Some(Kind::Fonts),
+            "labels" => Some(Kind::Labels),
+            "sheets" => Some(Kind::Sheets),
+            "cu" => Some(Kind::Cu),
+            _ => None,
+        }
+    }
+
+    fn scenes(self) -> Box<dyn Scenes> {
+        match self {
+            Kind::Fonts => Box::new(font_scenes::FontScenes),
+            Kind::Labels => Box::new(label_scenes::LabelScenes::default()),
+            Kind::Sheets => Box::new(sheet_scenes::SheetScenes),
+            Kind::Cu => Box::new(cu_scenes::CuScenes),
+        }
+    }
+}
+
+pub fn write_list(kind: Kind, seed: u64, count: usize, list: &mut impl Write) -> io::Result<()> {
+    let mut random = Random::from_seed(seed);
+    let mut scenes = kind.scenes();
+    for number in 0..count {
+        let scene = scenes.next(&mut random, number);
+        list.write_all(scene.text().as_bytes())?;
+    }
+    Ok(())
+}

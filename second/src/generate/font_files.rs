@@ -1,0 +1,118 @@
+//! Font files: good ones, ones at a limit and one past it, and damaged ones.
+
+mod damage;
+mod limits;
+mod parts;
+
+use super::random::Random;
+use damage::{damage_format, edge_word, last_pointer_past_the_raster, remove_dummy, DAMAGES};
+use limits::LIMITS;
+use parts::{good_parts, overlapping_parts};
+
+/// The words of a font and the numbers that calls on it are aimed by. A damaged font keeps
+/// the numbers of the good one that it was.
+pub struct MadeFont {
+    pub words: Vec<u16>,
+    pub min: i64,
+    pub max: i64,
+    pub ascent: i64,
+    pub height: i64,
+    /// FBBox, or 0 for a plain font: where pictures lie beside the pen.
+    pub left: i64,
+}
+
+/// A font of any sort; the number chooses the sort.
+pub fn any_font(random: &mut Random, number: usize) -> MadeFont {
+    let turn = number / 8;
+    match number % 8 {
+        0 => font_at_limit(random, turn),
+        1 => damaged_once(random, turn),
+        2 => damaged_often(random),
+        3 => wrongly_long(random, turn),
+        4 => with_a_random_word(random),
+        _ => good_font(random),
+    }
+}
+
+pub fn good_font(random: &mut Random) -> MadeFont {
+    if random.one_in(4) {
+        overlapping_parts(random).made()
+    } else {
+        good_parts(random).made()
+    }
+}
+
+/// A font that is refused for each of 1 to 7 in turn.
+pub fn refused_font(random: &mut Random, turn: usize) -> MadeFont {
+    let mut parts = good_parts(random);
+    match turn % 8 {
+        0 => return cut_to(parts.made(), random.below(9)),
+        1 => damage_format(random, &mut parts),
+        2 => parts.max = 256,
+        3 => parts.xoffset = 1,
+        4 => parts.length = parts.length.wrapping_add(1),
+        5 => last_pointer_past_the_raster(random, &mut parts),
+        6 => remove_dummy(random, &mut parts),
+        _ => return damaged_often(random),
+    }
+    parts.made()
+}
+
+/// A font at a limit of the reader or one past it.
+pub fn font_at_limit(random: &mut Random, turn: usize) -> MadeFont {
+    let limit = LIMITS[turn % LIMITS.len()];
+    limit(random).made()
+}
+
+fn damaged_once(random: &mut Random, turn: usize) -> MadeFont {
+    let mut parts = good_parts(random);
+    let damage = DAMAGES[turn % DAMAGES.len()];
+    damage(random, &mut parts);
+    parts.made()
+}
+
+/// Several faults at once show the order of the tests.
+fn damaged_often(random: &mut Random) -> MadeFont {
+    let mut parts = good_parts(random);
+    for _ in 0..random.between(2, 4) {
+        let damage = random.pick(&DAMAGES);
+        damage(random, &mut parts);
+    }
+    let mut font = parts.made();
+    if random.one_in(4) {
+        let length = random.below(font.words.len() + 1);
+        font = cut_to(font, length);
+    }
+    font
+}
+
+fn wrongly_long(random: &mut Random, turn: usize) -> MadeFont {
+    let mut parts = good_parts(random);
+    if random.one_in(3) {
+        damage_format(random, &mut parts);
+    }
+    let mut font = parts.made();
+    let length = font.words.len();
+    match turn % 10 {
+        0 => font.words.push(random.word()),
+        1 => font = cut_to(font, length - 1),
+        case => font = cut_to(font, [0, 1, 2, 8, 9, 10, 12, 13][case - 2]),
+    }
+    font
+}
+
+fn with_a_random_word(random: &mut Random) -> MadeFont {
+    let mut font = good_font(random);
+    let place = if random.one_in(2) {
+        random.below(13.min(font.words.len()))
+    } else {
+        random.below(font.words.len())
+    };
+    font.words[place] = edge_word(random, font.words[place]);
+    font
+}
+
+fn cut_to(mut font: MadeFont, length: usize) -> MadeFont {
+    font.words.truncate(length);
+    font
+}

@@ -1,0 +1,14 @@
+mod conversion;
+mod generated;
+mod lists;
+mod paper;
+mod sheets;
+
+use crate::replay::{replay, Stopped};
+
+/// The answers to a list.
+fn answers_to(list: &str) -> Result<String, Stopped> {
+    let mut answers = Vec::new();
+    replay(list.as_bytes(), &mut answers)?;
+    Ok(String::from_utf8(answers).expect("answers are ASCII"))
+}

@@ -1,0 +1,62 @@
+//! Generated lists are lists, and they reach every refusal.
+
+use super::answers_to;
+use crate::coverage::Coverage;
+use crate::generate::{write_list, Kind};
+
+fn generated(kind: Kind, seed: u64, count: usize) -> String {
+    let mut list = Vec::new();
+    write_list(kind, seed, count, &mut list).expect("a vector takes all bytes");
+    String::from_utf8(list).expect("a list is ASCII")
+}
+
+#[test]
+fn lists_of_several_seeds_are_answered() {
+    for kind in Kind::ALL {
+        for seed in [0, 2, 77, u64::MAX] {
+            let list = generated(kind, seed, 150);
+            let outcome = answers_to(&list);
+            assert!(outcome.is_ok(), "{kind:?} {seed}: {outcome:?}");
+        }
+    }
+}
+
+#[test]
+fn a_seed_makes_one_list() {
+    for kind in Kind::ALL {
+        assert_eq!(generated(kind, 5, 40), generated(kind, 5, 40));
+        assert_ne!(generated(kind, 5, 40), generated(kind, 6, 40));
+    }
+}
+
+#[test]
+fn every_refusal_appears_and_no_other() {
+    let counts = [
+        (Kind::Fonts, 800),
+        (Kind::Labels, 2_000),
+        (Kind::Sheets, 600),
+        (Kind::Cu, 1_200),
+    ];
+    let answers: String = counts
+        .iter()
+        .map(|&(kind, count)| answers_to(&generated(kind, 1, count)).unwrap())
+        .collect();
+    let coverage = Coverage::of(answers.as_bytes()).unwrap();
+    let expected: [(&str, &[u32]); 11] = [
+        ("check", &[0, 1, 2, 3, 4, 5, 6, 7]),
+        ("measure", &[0, 1, 2, 3, 4, 5, 6, 7, 10, 11]),
+        ("paint", &[0, 1, 2, 3, 4, 5, 6, 7, 8, 9, 10, 11, 12]),
+        ("gather", &[0, 1, 2, 3, 4, 5, 6, 7, 8, 9, 10, 11, 12]),
+        ("fresh", &[0, 8]),
+        ("join", &[0, 8]),
+        ("apply", &[0, 8]),
+        // No offset is over 255, for a raster has at most 256 columns.
+        ("convert", &[0, 20, 21, 22, 23, 24, 26, 27]),
+        ("program", &[0, 14, 20, 21, 22, 23, 24, 26, 27]),
+        ("deskcheck", &[0, 1, 2, 3, 4, 5, 6, 7, 14]),
+        ("deskmeasure", &[0, 1, 2, 3, 4, 5, 6, 7, 10, 11, 14]),
+    ];
+    for (kind, numbers) in expected {
+        assert_eq!(coverage.numbers(kind), numbers, "{kind}");
+    }
+}
