@@ -19,7 +19,7 @@ not-within-requires c κs = search needs
 
 returns : tie.Need-returns
 unfolding badBox
-returns c = 
+returns c =
     let outside = c .not-within .ensures ∙ ap (notWithin 1793 2303) (c .before .place-of-word .ensures) in
     as-chain (search chain depth 20)
 

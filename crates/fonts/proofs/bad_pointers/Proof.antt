@@ -39,11 +39,11 @@ cast-result-2 c = search needs
 
 returns-2 : tie.Need-returns-2
 unfolding badPointers
-returns-2 c = 
+returns-2 c =
     let a = c .before .before .before .before .before .before .args in
     let last =
-        ap (λ (w : ℕ). ltb (16 * a .h .raster) w)
-        (c .word-at .ensures ∙ ap (λ (n : ℕ). word (now (a .pointers)) (n + 1)) (c .before .codes .ensures)) in
+    ap (λ (w : ℕ). ltb (16 * a .h .raster) w)
+    (c .word-at .ensures ∙ ap (λ (n : ℕ). word (now (a .pointers)) (n + 1)) (c .before .codes .ensures)) in
     as-chain (search chain depth 20)
 
 pub bad-pointers-spec : {M : Type 1} → statement M

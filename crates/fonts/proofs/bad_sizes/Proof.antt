@@ -17,7 +17,7 @@ not-within-requires c κs = search needs
 
 returns : tie.Need-returns
 unfolding badSizes
-returns c = 
+returns c =
     let height = c .before .not-within .ensures ∙ ap (notWithin 1 256) (c .before .before .height .ensures) in
     as-chain (search chain depth 20)
 
@@ -29,13 +29,13 @@ not-within-requires-2 c κs = search needs
 
 returns-2 : tie.Need-returns-2
 unfolding badSizes
-returns-2 c = 
+returns-2 c =
     let height = c .before .before .before .before .not-within .ensures ∙ ap (notWithin 1 256) (c .before .before .before .before .before .height .ensures) in
     as-chain (search chain depth 20)
 
 returns-3 : tie.Need-returns-3
 unfolding badSizes
-returns-3 c = 
+returns-3 c =
     let height = c .before .before .before .before .before .before .not-within .ensures ∙ ap (notWithin 1 256) (c .before .before .before .before .before .before .before .height .ensures) in
     as-chain (search chain depth 20)
 
@@ -44,7 +44,7 @@ bad-box-requires c κs = search needs
 
 returns-4 : tie.Need-returns-4
 unfolding badSizes
-returns-4 c = 
+returns-4 c =
     let height = c .before .before .before .before .before .before .before .not-within .ensures ∙ ap (notWithin 1 256) (c .before .before .before .before .before .before .before .before .height .ensures) in
     as-chain (search chain depth 20)
 

@@ -23,7 +23,7 @@ word-at-requires c κs = search needs
 
 returns : tie.Need-returns
 unfolding noDummy
-returns c = 
+returns c =
     let a = c .before .before .before .before .before .before .args in
     let entry = ap (λ (w : ℕ). eqb w 0xFFFF) (c .word-at .ensures ∙ ap (word (now (a .widths))) (c .before .before .before .codes .ensures)) in
     search chain
@@ -39,12 +39,12 @@ word-at-requires-3 c κs = search needs
 
 returns-2 : tie.Need-returns-2
 unfolding noDummy
-returns-2 c = 
+returns-2 c =
     let a = c .before .before .before .before .before .before .before .args in
     let n = c .before .before .before .before .codes .ensures in
     let equal =
-        ap₂ eqb (c .before .word-at2 .ensures ∙ ap (word (now (a .pointers))) n)
-        (c .word-at3 .ensures ∙ ap (λ (k : ℕ). word (now (a .pointers)) (k + 1)) n) in
+    ap₂ eqb (c .before .word-at2 .ensures ∙ ap (word (now (a .pointers))) n)
+    (c .word-at3 .ensures ∙ ap (λ (k : ℕ). word (now (a .pointers)) (k + 1)) n) in
     search chain
 
 pub no-dummy-spec : {M : Type 1} → statement M

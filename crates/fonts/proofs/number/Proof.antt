@@ -32,7 +32,7 @@ table-number-requires c κs = search needs
 
 returns-2 : tie.Need-returns-2
 unfolding fontNumber
-returns-2 c = 
+returns-2 c =
     let b = c .before .before .before in
     let a = b .before .before .before .before .args in
     let first = b .before .header-number .ensures ∙ ap (λ h. headerNumber h (length (now (a .font)))) (b .before .before .of .ensures) in

@@ -13,7 +13,7 @@ number-requires c κs = search needs
 
 returns : tie.Need-returns
 unfolding readingOf accepted
-returns c = 
+returns c =
     let refused = ap Refused (c .before .number .ensures) in
     search chain
 
@@ -22,7 +22,7 @@ of-requires c κs = search needs
 
 returns-2 : tie.Need-returns-2
 unfolding readingOf accepted
-returns-2 c = 
+returns-2 c =
     let read = ap Accepted (c .of .ensures) in
     search chain
 

@@ -30,7 +30,7 @@ add-result-2 c = omega arith
 
 returns : tie.Need-returns
 unfolding fileSum
-returns c = 
+returns c =
     let sum = ap₂ (λ (w n : ℕ). w + 2 * n + 16) (c .before .bitmap-words .ensures .0) (c .codes .ensures) in
     search chain
 
@@ -48,7 +48,7 @@ add-result-4 c = omega arith
 
 returns-2 : tie.Need-returns-2
 unfolding fileSum
-returns-2 c = 
+returns-2 c =
     let sum = ap₂ (λ (w n : ℕ). w + n + 11) (c .before .bitmap-words2 .ensures .0) (c .codes2 .ensures) in
     search chain
 
