@@ -1,2 +1,3 @@
 pub mod Compute
 pub mod Falling
+pub mod Dots

@@ -328,3 +328,130 @@ pub fn read(font: &[u16]) -> Reading
     }
     Reading::Accepted(Header::of(font))
 }
+
+// A code that is k past min exists.
+fn exists_at(h: Header, pointers: &[u16], widths: &[u16], k: u32) -> bool
+    ensures { λ r. ⌜ r ≡ existsAt h (now (pointers .entry)) (now (widths .entry)) k ⌝ }
+{
+    let at = k as usize;
+    if h.kerned() {
+        return words::word_at(widths, at) != 0xFFFF;
+    }
+    words::word_at(pointers, at) != words::word_at(pointers, at + 1)
+}
+
+fn exists(h: Header, pointers: &[u16], widths: &[u16], code: u32) -> bool
+    ensures { λ r. ⌜ r ≡ exists h (now (pointers .entry)) (now (widths .entry)) code ⌝ }
+{
+    let min = h.min as u32;
+    if code < min {
+        return false;
+    }
+    if (h.max as u32) < code {
+        return false;
+    }
+    exists_at(h, pointers, widths, code - min)
+}
+
+// Where the tables have what is drawn for a code: at its own place, or at the dummy's.
+fn shown_at(h: Header, pointers: &[u16], widths: &[u16], code: u32) -> u32
+    ensures { λ r. ⌜ r ≡ shownAt h (now (pointers .entry)) (now (widths .entry)) code ⌝ }
+{
+    if exists(h, pointers, widths, code) {
+        return code - h.min as u32;
+    }
+    h.codes() as u32
+}
+
+fn columns_at(pointers: &[u16], k: u32) -> u16
+    ensures { λ r. ⌜ r ≡ columnsAt (now (pointers .entry)) k ⌝ }
+{
+    let at = k as usize;
+    let left = words::word_at(pointers, at);
+    let right = words::word_at(pointers, at + 1);
+    if right < left {
+        return 0;
+    }
+    right - left
+}
+
+fn place_at(h: Header, widths: &[u16], k: u32) -> u32
+    ensures { λ r. ⌜ r ≡ placeAt h (now (widths .entry)) k ⌝ }
+{
+    if h.kerned() {
+        let offset = words::word_at(widths, k as usize) / 256;
+        return words::place_of_word(h.fbbox) as u32 + offset as u32;
+    }
+    2048
+}
+
+fn advance_at(h: Header, pointers: &[u16], widths: &[u16], k: u32) -> u16
+    ensures { λ r. ⌜ r ≡ advanceAt h (now (pointers .entry)) (now (widths .entry)) k ⌝ }
+{
+    if h.kerned() {
+        return words::word_at(widths, k as usize) % 256;
+    }
+    columns_at(pointers, k)
+}
+
+impl Glyph {
+    // What the font shows for a code, by its header and its two tables.
+    pub fn of(h: Header, pointers: &[u16], widths: &[u16], code: u32) -> Glyph
+        ensures { λ r. ⌜ r ≡ glyphFrom h (now (pointers .entry)) (now (widths .entry)) code ⌝ }
+    {
+        let k = shown_at(h, pointers, widths, code);
+        Glyph {
+            bitmap: h.bitmap_at() as u32,
+            raster: h.raster,
+            first: words::word_at(pointers, k as usize),
+            columns: columns_at(pointers, k),
+            ascent: h.ascent,
+            height: h.height() as u32,
+            place: place_at(h, widths, k),
+            advance: advance_at(h, pointers, widths, k),
+            substitute: !exists(h, pointers, widths, code),
+        }
+    }
+
+    // One dot of a picture; 0 past it.
+    pub fn dot(self, font: &[u16], row: usize, column: usize) -> u16
+        ensures { λ r. ⌜ r ≡ dotOf (now (font .entry)) self row column ⌝ }
+    {
+        if self.height as usize <= row {
+            return 0;
+        }
+        if self.columns as usize <= column {
+            return 0;
+        }
+        let at = self.first as usize + column;
+        let i = self.bitmap as usize + row * (self.raster as usize) + at / 16;
+        words::bit(words::word_at(font, i), at % 16)
+    }
+
+    // Sixteen dots of a picture's row, from a column on.
+    pub fn dots(self, font: &[u16], row: usize, column: u32) -> u16
+        ensures { λ r. ⌜ r ≡ dotsOf (now (font .entry)) self row column ⌝ }
+    {
+        let from = column as usize;
+        let mut word: u16 = 0;
+        for i in 0..16 {
+            word = word * 2 + self.dot(font, row, from + i);
+        }
+        word
+    }
+}
+
+// One row of the strike, as a part of the font's own words; the empty part where the font is refused or the row is past the last.
+pub fn row(font: &[u16], r: usize) -> &[u16]
+    ensures { λ part. ⌜ now part ≡ rowOf (now (font .entry)) r ⌝ }
+{
+    let h = Header::of(font);
+    if number(font) != 0 {
+        return &font[..0];
+    }
+    if h.height() <= r {
+        return &font[..0];
+    }
+    let raster = h.raster as usize;
+    words::part(font, h.bitmap_at() + r * raster, raster)
+}

@@ -53,6 +53,12 @@ module _ {A : Type 0} (z x y : A) where
   pub on-ne-right : (a b r : ℕ) → r ≡ b → (a ≡ r → ⊥) → z ≡ y → z ≡ cond (eqb a b) x y
   on-ne-right a b r e h p = on-ne a b (λ k. h (k ∙ sym e)) p
 
+  pub on-lt-right : (a b r : ℕ) → r ≡ b → a < r → z ≡ x → z ≡ cond (ltb a b) x y
+  on-lt-right a b r e h p = rw (← e) (on-lt a r h p)
+
+  pub on-ge-right : (a b r : ℕ) → r ≡ b → r ≤ a → z ≡ y → z ≡ cond (ltb a b) x y
+  on-ge-right a b r e h p = rw (← e) (on-ge a r h p)
+
   -- the definition's `||`, `&&` and `not`, where the code has an `if` for each
   pub on-or : (s t : Bool) → z ≡ cond s x (cond t x y) → z ≡ cond (s || t) x y
   on-or true t p = p
@@ -71,7 +77,10 @@ pub on-itself : (t r : Bool) → r ≡ t → r ≡ cond t true false
 on-itself true r e = e
 on-itself false r e = e
 
-pub ruleset chain = (on-itself, on-true, on-false, on-lt, on-ge, on-le, on-gt, on-eq, on-ne, on-told, on-denied, on-eq-left, on-ne-left, on-eq-right, on-ne-right, on-or, on-and, on-not, refl)
+pub ruleset chain = (on-itself, on-true, on-false, on-lt, on-ge, on-le, on-gt, on-eq, on-ne, on-told, on-denied, on-or, on-and, on-not, refl)
+
+-- the same, where the code compares numbers that calls have handed it
+pub ruleset chain-of-replies = (on-eq-left, on-ne-left, on-eq-right, on-ne-right, on-lt-right, on-ge-right, chain)
 
 -- a test, as a chain of the tests that it is made of
 pub as-chain : {t z : Bool} → z ≡ cond t true false → z ≡ t

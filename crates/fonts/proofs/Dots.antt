@@ -1,0 +1,53 @@
+-- What every dot and every code promises.
+use Prim.Native.Nat.{ℕ, _+_, _*_, _/_, _%_, _<_, _≤_}
+use mathlib.Core.Path.{_≡_, refl, sym}
+use mathlib.Core.Bool.{Bool, true, false, cond, _&&_}
+use mathlib.Core.List.{List}
+use native.Mathlib.Omega.{arith}
+use native.Mathlib.Nat.{mul-le-mul}
+use lib.Dec.{leb, ltb}
+use borrow.Author.Tests.{leb-true}
+use Rattle.words.specs.Word.{word, wordTo}
+use Rattle.words.proofs.Digits.{bit-digit}
+use Rattle.words.proofs.Bits.{word-to-more, word-to-fits}
+use Rattle.fonts.specs.declared.Header.{Header}
+use Rattle.fonts.specs.declared.Glyph.{Glyph}
+use Rattle.fonts.specs.Face.{exists, dotOf}
+
+choice-lt : (t : Bool) (x n : ℕ) → x < n → cond t x 0 < n
+choice-lt true x n h = h
+choice-lt false x n h = omega arith
+
+-- a dot is 0 or 1
+pub dot-bit : (ws : List ℕ) (g : Glyph) (r j : ℕ) → dotOf ws g r j < 2
+unfolding dotOf
+dot-bit ws g r j =
+    choice-lt (ltb r (g .height) && ltb j (g .columns)) _ 2
+    (bit-digit (word ws (g .bitmap + r * g .raster + (g .first + j) / 16)) ((g .first + j) % 16))
+
+first-of-three : (s t u : Bool) → ((s && t) && u) ≡ true → s ≡ true
+first-of-three true t u e = refl
+first-of-three false t u e = e
+
+-- a code that exists is not below min
+pub exists-from : (h : Header) (pointers widths : List ℕ) (c : ℕ) → exists h pointers widths c ≡ true → h .min ≤ c
+unfolding exists
+exists-from h pointers widths c e = leb-true (h .min) c (first-of-three (leb (h .min) c) _ _ e)
+
+-- the dots of a row from a column on, as the bits of a word
+abbrev pub dotsFrom : List ℕ → Glyph → ℕ → ℕ → ℕ → ℕ
+dotsFrom ws g r column i = dotOf ws g r (column + i)
+
+pub one-more-fits : (ws : List ℕ) (g : Glyph) (r column i w d : ℕ)
+    → i < 16 → w ≡ wordTo (dotsFrom ws g r column) i → d ≡ dotOf ws g r (column + i)
+    → w * 2 + d < 65536
+one-more-fits ws g r column i w d h e k = rw (e, k) (word-to-fits (dotsFrom ws g r column) (λ n. dot-bit ws g r (column + n)) i h)
+
+pub one-more : (ws : List ℕ) (g : Glyph) (r column i w d : ℕ)
+    → w ≡ wordTo (dotsFrom ws g r column) i → d ≡ dotOf ws g r (column + i)
+    → w * 2 + d ≡ wordTo (dotsFrom ws g r column) (i + 1)
+one-more ws g r column i w d e k = rw (e, k) (sym (word-to-more (dotsFrom ws g r column) i))
+
+-- a row times the words of a row is far from wrapping
+pub row-start : (row raster : ℕ) → row ≤ 4294967295 → raster ≤ 65535 → row * raster ≤ 281470681677825
+row-start row raster h k = mul-le-mul h k
