@@ -1,3 +1,4 @@
 pub mod Compute
 pub mod Falling
 pub mod Dots
+pub mod Outcomes

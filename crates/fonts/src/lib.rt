@@ -90,14 +90,14 @@ impl Header {
         }
     }
 
-    pub fn kerned(self) -> bool
+    fn kerned(self) -> bool
         ensures { λ r. ⌜ r ≡ kerned self ⌝ }
     {
         kerned_format(self.format)
     }
 
     // n, the number of codes from min to max; 1 where min is past max, which 3 refuses.
-    pub fn codes(self) -> usize
+    fn codes(self) -> usize
         ensures { λ r. ⌜ r ≡ codes self ⌝ }
     {
         if self.max < self.min {
@@ -106,13 +106,13 @@ impl Header {
         (self.max - self.min) as usize + 1
     }
 
-    pub fn height(self) -> usize
+    fn height(self) -> usize
         ensures { λ r. ⌜ r ≡ height self ⌝ }
     {
         self.ascent as usize + self.descent as usize
     }
 
-    pub fn bitmap_at(self) -> usize
+    fn bitmap_at(self) -> usize
         ensures { λ r. ⌜ r ≡ bitmapAt self ⌝ }
         ensures small { λ r. ⌜ r ≤ 13 ⌝ }
     {
@@ -122,14 +122,14 @@ impl Header {
         9
     }
 
-    pub fn bitmap_words(self) -> usize
+    fn bitmap_words(self) -> usize
         ensures { λ r. ⌜ r ≡ bitmapWords self ⌝ }
         ensures small { λ r. ⌜ r ≤ 8589672450 ⌝ }
     {
         self.raster as usize * self.height()
     }
 
-    pub fn pointers_at(self) -> usize
+    fn pointers_at(self) -> usize
         ensures { λ r. ⌜ r ≡ pointersAt self ⌝ }
         ensures small { λ r. ⌜ r ≤ 8589672463 ⌝ }
     {
@@ -414,7 +414,7 @@ impl Glyph {
     }
 
     // One dot of a picture; 0 past it.
-    pub fn dot(self, font: &[u16], row: usize, column: usize) -> u16
+    fn dot(self, font: &[u16], row: usize, column: usize) -> u16
         ensures { λ r. ⌜ r ≡ dotOf (now (font .entry)) self row column ⌝ }
     {
         if self.height as usize <= row {

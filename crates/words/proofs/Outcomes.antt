@@ -3,8 +3,14 @@ use Prim.Native.Nat.{ℕ}
 use mathlib.Core.Path.{_≡_, sym, _∙_}
 use mathlib.Core.List.{List}
 use contract.Lifetimes.{Lfts}
+use denote.Ref.{now}
 use denote.Triple.Clauses.{AtExit}
 use borrow.Fn.Kinds.{PK, RK, Dens, resT, Out, endedOf}
+use Rattle.words.proofs.bit as bit
+use Rattle.words.proofs.not_within as not-within
+use Rattle.words.proofs.place_of_word as place-of-word
+use Rattle.words.proofs.word_at as word-at
+use Rattle.words.proofs.part as part
 use Rattle.words.proofs.Mode.of as mode-of
 use Rattle.words.proofs.Effect.new as new
 use Rattle.words.proofs.Effect.identity as identity
@@ -49,3 +55,19 @@ join-one κs a r o e e′ p q = p ∙ sym q
 
 pub apply-one : OneReply 0 apply.Kinds.ps apply.Kinds.r apply.Reads.Post
 apply-one κs a r o e e′ p q = p ∙ sym q
+
+pub bit-one : OneReply 0 bit.Kinds.ps bit.Kinds.r bit.Reads.Post
+bit-one κs a r o e e′ p q = p ∙ sym q
+
+pub not-within-one : OneReply 0 not-within.Kinds.ps not-within.Kinds.r not-within.Reads.Post
+not-within-one κs a r o e e′ p q = p ∙ sym q
+
+pub place-of-word-one : OneReply 0 place-of-word.Kinds.ps place-of-word.Kinds.r place-of-word.Reads.Post
+place-of-word-one κs a r o e e′ p q = p ∙ sym q
+
+pub word-at-one : OneReply 1 word-at.Kinds.ps word-at.Kinds.r word-at.Reads.Post
+word-at-one κs a r o e e′ p q = p ∙ sym q
+
+pub part-one : (κs : Lfts 1) (a : Dens κs part.Kinds.ps) (r o : resT part.Kinds.r κs .Denot) (e e′ : AtExit (endedOf 1 part.Kinds.ps part.Kinds.r) κs)
+    → part.Reads.Post κs a r e → part.Reads.Post κs a o e′ → now r ≡ now o
+part-one κs a r o e e′ p q = p ∙ sym q

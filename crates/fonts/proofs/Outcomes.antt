@@ -1,0 +1,44 @@
+-- Two outcomes that a contract permits are equal, for each public function of this crate. A part is told by the words that it holds.
+use mathlib.Core.Path.{_≡_, sym, _∙_}
+use mathlib.Core.List.{List}
+use Prim.Native.Nat.{ℕ}
+use denote.Ref.{now}
+use contract.Lifetimes.{Lfts}
+use denote.Triple.Clauses.{AtExit}
+use borrow.Fn.Kinds.{Dens, resT, endedOf}
+use Rattle.words.proofs.Outcomes.{OneReply}
+use Rattle.fonts.proofs.Header.of as header-of
+use Rattle.fonts.proofs.pointers as pointers
+use Rattle.fonts.proofs.widths as widths
+use Rattle.fonts.proofs.number as number
+use Rattle.fonts.proofs.read as read
+use Rattle.fonts.proofs.Glyph.of as glyph-of
+use Rattle.fonts.proofs.Glyph.dots as dots
+use Rattle.fonts.proofs.row as row
+
+pub header-of-one : OneReply 1 header-of.Kinds.ps header-of.Kinds.r header-of.Reads.Post
+header-of-one κs a r o e e′ p q = p ∙ sym q
+
+pub pointers-one : (κs : Lfts 1) (a : Dens κs pointers.Kinds.ps) (r o : resT pointers.Kinds.r κs .Denot) (e e′ : AtExit (endedOf 1 pointers.Kinds.ps pointers.Kinds.r) κs)
+    → pointers.Reads.Post κs a r e → pointers.Reads.Post κs a o e′ → now r ≡ now o
+pointers-one κs a r o e e′ p q = p ∙ sym q
+
+pub widths-one : (κs : Lfts 1) (a : Dens κs widths.Kinds.ps) (r o : resT widths.Kinds.r κs .Denot) (e e′ : AtExit (endedOf 1 widths.Kinds.ps widths.Kinds.r) κs)
+    → widths.Reads.Post κs a r e → widths.Reads.Post κs a o e′ → now r ≡ now o
+widths-one κs a r o e e′ p q = p ∙ sym q
+
+pub number-one : OneReply 1 number.Kinds.ps number.Kinds.r number.Reads.Post
+number-one κs a r o e e′ p q = p ∙ sym q
+
+pub read-one : OneReply 1 read.Kinds.ps read.Kinds.r read.Reads.Post
+read-one κs a r o e e′ p q = p ∙ sym q
+
+pub glyph-of-one : OneReply 2 glyph-of.Kinds.ps glyph-of.Kinds.r glyph-of.Reads.Post
+glyph-of-one κs a r o e e′ p q = p ∙ sym q
+
+pub dots-one : OneReply 1 dots.Kinds.ps dots.Kinds.r dots.Reads.Post
+dots-one κs a r o e e′ p q = p ∙ sym q
+
+pub row-one : (κs : Lfts 1) (a : Dens κs row.Kinds.ps) (r o : resT row.Kinds.r κs .Denot) (e e′ : AtExit (endedOf 1 row.Kinds.ps row.Kinds.r) κs)
+    → row.Reads.Post κs a r e → row.Reads.Post κs a o e′ → now r ≡ now o
+row-one κs a r o e e′ p q = p ∙ sym q
