@@ -4,5 +4,6 @@ pub mod Digits
 pub mod BitLaws
 pub mod Lists
 pub mod Bits
+pub mod Signs
 pub mod Effects
 pub mod Outcomes

@@ -10,10 +10,10 @@ unfoldable pub outside : ℤ → Bool
 outside (pos n) = ltb 1023 n
 outside (negsuc n) = ltb 1023 n
 
--- the place of x or y
+-- the place of x or y; 0, where none of them lies, for one that is refused
 unfoldable pub placeOf : ℤ → ℕ
-placeOf (pos n) = 2048 + n
-placeOf (negsuc n) = 2048 - suc n
+placeOf (pos n) = cond (ltb 1023 n) 0 (2048 + n)
+placeOf (negsuc n) = cond (ltb 1023 n) 0 (2047 - n)
 
 -- the number that a place stands for
 unfoldable pub numberAt : ℕ → ℤ

@@ -4,7 +4,7 @@ ghost use mathlib.Core.Path.{_≡_};
 ghost use lib.ListN.{take, drop};
 ghost use Rattle.words.specs.Word.{word, bitOf};
 ghost use Rattle.words.specs.Refusal.{notWithin};
-ghost use Rattle.words.specs.Place.{placeOfWord};
+ghost use Rattle.words.specs.Place.{outside, placeOf, placeOfWord};
 ghost use Rattle.words.specs.Effect.{effect, identity, paintOf, eraseOf, invertOf, effectOf, modeOf, joinOf, applyTo};
 
 // How the dots of a picture change the dots of the panel.
@@ -149,4 +149,27 @@ pub fn place_of_word(w: u16) -> usize
     ensures { λ r. ⌜ r ≡ placeOfWord w ⌝ }
 {
     (w as usize + 2048) % 65536
+}
+
+// x or y is not from -1024 to 1023.
+pub fn outside(x: i32) -> bool
+    ensures { λ r. ⌜ r ≡ outside x ⌝ }
+{
+    if x < -1024 {
+        return true;
+    }
+    1023 < x
+}
+
+// The place of x or y, counted from 2048 below zero; 0 for one that is refused.
+pub fn place_of(x: i32) -> usize
+    ensures { λ r. ⌜ r ≡ placeOf x ⌝ }
+{
+    if x < -1024 {
+        return 0;
+    }
+    if 1023 < x {
+        return 0;
+    }
+    (x + 2048) as usize
 }
