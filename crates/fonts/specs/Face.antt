@@ -51,9 +51,6 @@ glyphFrom h pointers widths c =
       substitute = not (exists h pointers widths c);
     }
 
-unfoldable pub glyphOf : List ℕ → ℕ → Glyph
-glyphOf ws c = let h = headerOf ws in glyphFrom h (pointersOf h ws) (widthsOf h ws) c
-
 -- the dot of a picture in row r, column j, the top row and the left column being 0; no dot lies past the picture.
 -- "the bitmap, raster × height words, top row first"
 unfoldable pub dotOf : List ℕ → Glyph → ℕ → ℕ → ℕ
@@ -71,8 +68,11 @@ pub record Face : Type 0 where
   pub glyph : ℕ → Glyph
   pub dot : Glyph → ℕ → ℕ → ℕ
 
+unfoldable pub faceFrom : Header → List ℕ → List ℕ → List ℕ → Face
+faceFrom h pointers widths ws = record { glyph = glyphFrom h pointers widths; dot = dotOf ws }
+
 unfoldable pub faceOf : List ℕ → Face
-faceOf ws = record { glyph = glyphOf ws; dot = dotOf ws }
+faceOf ws = let h = headerOf ws in faceFrom h (pointersOf h ws) (widthsOf h ws) ws
 
 -- "One row of a strike may be asked for: it is that part of the caller's own file. A refused font or a row at or past height
 -- gives the empty part"

@@ -44,7 +44,7 @@ callNumber s lent call =
 
 -- the pen after an accepted call
 unfoldable pub lastPen : List ℕ → ℤ → List ℕ → Pen
-lastPen font x label = penAlong (faceOf font) (penAt x) label
+lastPen font x label = penAlong (faceOf font .glyph) (penAt x) label
 
 -- "The reply is the last pen and the substitutes."
 unfoldable pub replyFor : ℕ → Pen → Reply

@@ -8,17 +8,20 @@ use Rattle.paint.specs.declared.Shape.{Shape}
 use Rattle.paint.specs.declared.Strip.{Strip}
 
 -- "A panel has R words per row, H rows": R × H words. "A lent slice may be longer than R × H; the rest is never touched."
-unfoldable pub panelWords : Shape → ℕ
+abbrev pub panelWords : Shape → ℕ
 panelWords s = s .rowwords * s .rows
 
 -- "Strip k is columns kW to kW + W - 1"
-unfoldable pub stripOf : Shape → ℕ → Strip
+abbrev pub stripOf : Shape → ℕ → Strip
 stripOf s k = record { from = k * s .width; upto = k * s .width + s .width }
 
--- 8: "R not 1..128, H not 1..256, W not 1..64, 32W > 16R"
+-- 8: "R not 1..128, H not 1..256, W not 1..64"
+unfoldable pub badSides : Shape → Bool
+badSides s = notWithin 1 128 (s .rowwords) || notWithin 1 256 (s .rows) || notWithin 1 64 (s .width)
+
+-- 8: or "32W > 16R"
 unfoldable pub badShape : Shape → Bool
-badShape s =
-    notWithin 1 128 (s .rowwords) || notWithin 1 256 (s .rows) || notWithin 1 64 (s .width) || ltb (16 * s .rowwords) (32 * s .width)
+badShape s = badSides s || ltb (16 * s .rowwords) (32 * s .width)
 
 -- 8: "or a lent panel or sheet slice under R × H words", by the lengths of the slices
 unfoldable pub someShort : Shape → List ℕ → Bool

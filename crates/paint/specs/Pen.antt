@@ -16,18 +16,21 @@ use Rattle.paint.specs.declared.Strip.{Strip}
 use Rattle.paint.specs.declared.Pen.{Pen}
 
 -- "starting pen x in strip columns"
-unfoldable pub penAt : ℤ → Pen
+abbrev pub penAt : ℤ → Pen
 penAt x = record { place = placeOf x; substitutes = 0 }
 
 -- "Each step of the pen yields a new pen from the old one": over what is shown for one character
 unfoldable pub penAfter : Pen → Glyph → Pen
 penAfter pen g =
-    record { place = pen .place + g .advance; substitutes = pen .substitutes + cond (g .substitute) 1 0 }
+    record {
+      place = pen .place + g .advance;
+      substitutes = cond (g .substitute) (pen .substitutes + 1) (pen .substitutes);
+    }
 
--- the pen after a label
-unfoldable pub penAlong : Face → Pen → List ℕ → Pen
-penAlong face pen [] = pen
-penAlong face pen (c ∷ label) = penAlong face (penAfter pen (face .glyph c)) label
+-- the pen after a label, by what is shown for each code
+unfoldable pub penAlong : (ℕ → Glyph) → Pen → List ℕ → Pen
+penAlong glyph pen [] = pen
+penAlong glyph pen (c ∷ label) = penAlong glyph (penAfter pen (glyph c)) label
 
 -- The dot that a picture puts on a row and column of the panel. "Picture row r lands on panel row y - ascent + r"; its left column goes to
 -- the pen and the glyph's place, in strip columns; "Dots outside the strip or the panel are dropped".
@@ -41,10 +44,13 @@ mark face strip y pen g row column =
     (face .dot g (down - y) (at - left))
     0
 
+-- the marks of a picture on sixteen columns of a row of the panel, from a column on
+unfoldable pub maskFrom : Face → Strip → ℕ → Pen → Glyph → ℕ → ℕ → ℕ
+maskFrom face strip y pen g row column = wordOf (λ j. mark face strip y pen g row (column + j))
+
 -- the marks of a picture on word i of the panel, which is sixteen columns of one row
 unfoldable pub maskAt : Face → Shape → Strip → ℕ → Pen → Glyph → ℕ → ℕ
-maskAt face s strip y pen g i =
-    wordOf (λ j. mark face strip y pen g (i / s .rowwords) (16 * (i % s .rowwords) + j))
+maskAt face s strip y pen g i = maskFrom face strip y pen g (i / s .rowwords) (16 * (i % s .rowwords))
 
 -- "Characters are drawn in order: Paint sets, Erase clears, Invert flips each dot of the picture that is 1. Overlapping characters in
 -- Invert flip twice." What a label does to word i of the panel

@@ -1,10 +1,21 @@
 // Measuring labels, and painting them into the strips of a panel.
+use fonts::Glyph;
+use fonts::Header;
+ghost use mathlib.Core.Path.{_≡_};
+ghost use mathlib.Core.List.{[], _∷_};
+ghost use Prim.Native.Nat.{_+_, _≤_};
+ghost use Rattle.paint.specs.Panel.{panelWords, stripOf, badSides, badShape, badPanel};
+ghost use lib.ListN.{length};
+ghost use Rattle.words.specs.Place.{numberAt};
+ghost use Rattle.fonts.specs.Face.{glyphFrom};
+ghost use Rattle.paint.specs.Pen.{penAt, penAfter, penAlong};
+ghost use Rattle.paint.specs.Label.{lastPen, replyFor, measureNumber, measureOf};
 
 // The size of a panel: words per row, rows, and the columns of a strip.
 pub struct Shape {
-    pub rowwords: usize,
-    pub rows: usize,
-    pub width: usize,
+    pub rowwords: u32,
+    pub rows: u32,
+    pub width: u32,
 }
 
 // The columns of the panel from `from` up to, and without, `upto`.
@@ -23,4 +34,111 @@ pub struct Pen {
 pub enum Reply {
     Done { pen: i32, substitutes: u32 },
     Refused(u32),
+}
+
+impl Shape {
+    pub fn panel_words(self) -> usize
+        ensures { λ r. ⌜ r ≡ panelWords self ⌝ }
+    {
+        self.rowwords as usize * self.rows as usize
+    }
+}
+
+impl Strip {
+    // Strip k of a panel.
+    pub fn of(s: Shape, k: u32) -> Strip
+        ensures { λ r. ⌜ r ≡ stripOf s k ⌝ }
+    {
+        let width = s.width as usize;
+        let from = k as usize * width;
+        Strip {
+            from,
+            upto: from + width,
+        }
+    }
+}
+
+fn bad_sides(s: Shape) -> bool
+    ensures { λ r. ⌜ r ≡ badSides s ⌝ }
+{
+    if words::not_within(1, 128, s.rowwords as usize) {
+        return true;
+    }
+    if words::not_within(1, 256, s.rows as usize) {
+        return true;
+    }
+    words::not_within(1, 64, s.width as usize)
+}
+
+fn bad_shape(s: Shape) -> bool
+    ensures { λ r. ⌜ r ≡ badShape s ⌝ }
+{
+    if bad_sides(s) {
+        return true;
+    }
+    16 * (s.rowwords as usize) < 32 * (s.width as usize)
+}
+
+// A shape, or a lent slice of so many words, is refused by 8.
+pub fn bad_panel(s: Shape, lent: usize) -> bool
+    ensures { λ r. ⌜ r ≡ badPanel s (lent ∷ []) ⌝ }
+{
+    if bad_shape(s) {
+        return true;
+    }
+    lent < s.panel_words()
+}
+
+impl Pen {
+    pub fn at(x: i32) -> Pen
+        ensures { λ r. ⌜ r ≡ penAt x ⌝ }
+    {
+        Pen {
+            place: words::place_of(x),
+            substitutes: 0,
+        }
+    }
+
+    // The pen moved over what is shown for one character, with the substitutes counted.
+    fn after(self, g: Glyph) -> Pen
+        requires { ⌜ (self .place ≤ 4294967296) × (self .substitutes ≤ 4294967296) ⌝ }
+        ensures { λ r. ⌜ r ≡ penAfter self g ⌝ }
+        ensures near { λ r. ⌜ (r .place ≤ self .place + 65535) × (r .substitutes ≤ self .substitutes + 1) ⌝ }
+    {
+        let place = self.place + g.advance as usize;
+        if g.substitute {
+            return Pen {
+                place,
+                substitutes: self.substitutes + 1,
+            };
+        }
+        Pen {
+            place,
+            substitutes: self.substitutes,
+        }
+    }
+}
+
+// A label byte, used as a code.
+fn code(byte: u8) -> u32
+    ensures { λ r. ⌜ r ≡ byte ⌝ }
+{
+    byte as u32
+}
+
+// The pen after a label, by the header and the two tables of its font.
+fn pen_along(h: Header, pointers: &[u16], widths: &[u16], start: Pen, label: &[u8]) -> Pen
+    requires { ⌜ (start .place ≤ 65536) × (start .substitutes ≤ 65536) ⌝ }
+    requires { ⌜ length (now label) ≤ 64 ⌝ }
+    ensures { λ r. ⌜ r ≡ penAlong (glyphFrom h (now (pointers .entry)) (now (widths .entry))) start (now (label .entry)) ⌝ }
+    ensures small { λ r. ⌜ (r .place ≤ 4259840) × (r .substitutes ≤ 65600) ⌝ }
+{
+    let mut pen = start;
+    let mut i = 0;
+    while i < label.len() {
+        let g = Glyph::of(h, pointers, widths, code(label[i]));
+        pen = pen.after(g);
+        i += 1;
+    }
+    pen
 }
