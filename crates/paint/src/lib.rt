@@ -9,7 +9,8 @@ ghost use lib.ListN.{length};
 ghost use Rattle.words.specs.Place.{numberAt};
 ghost use Rattle.fonts.specs.Face.{glyphFrom};
 ghost use Rattle.paint.specs.Pen.{penAt, penAfter, penAlong};
-ghost use Rattle.paint.specs.Label.{lastPen, replyFor, measureNumber, measureOf};
+ghost use Rattle.paint.specs.declared.Reply.the-variants.{Done};
+ghost use Rattle.paint.specs.Label.{lastPen, measureOf};
 
 // The size of a panel: words per row, rows, and the columns of a strip.
 pub struct Shape {
@@ -92,6 +93,7 @@ pub fn bad_panel(s: Shape, lent: usize) -> bool
 impl Pen {
     pub fn at(x: i32) -> Pen
         ensures { λ r. ⌜ r ≡ penAt x ⌝ }
+        ensures near { λ r. ⌜ (r .place ≤ 3071) × (r .substitutes ≤ 0) ⌝ }
     {
         Pen {
             place: words::place_of(x),
@@ -141,4 +143,51 @@ fn pen_along(h: Header, pointers: &[u16], widths: &[u16], start: Pen, label: &[u
         i += 1;
     }
     pen
+}
+
+// The number that a pen's place stands for.
+fn number_at(place: usize) -> i32
+    requires { ⌜ place ≤ 4259840 ⌝ }
+    ensures { λ r. ⌜ r ≡ numberAt place ⌝ }
+{
+    place as i32 - 2048
+}
+
+// The reply of an accepted call.
+fn done(last: Pen) -> Reply
+    requires { ⌜ (last .place ≤ 4259840) × (last .substitutes ≤ 65600) ⌝ }
+    ensures { λ r. ⌜ r ≡ Done (numberAt (last .place)) (last .substitutes) ⌝ }
+{
+    Reply::Done {
+        pen: number_at(last.place),
+        substitutes: last.substitutes as u32,
+    }
+}
+
+fn last_pen(font: &[u16], x: i32, label: &[u8]) -> Pen
+    requires { ⌜ length (now label) ≤ 64 ⌝ }
+    ensures { λ r. ⌜ r ≡ lastPen (now (font .entry)) x (now (label .entry)) ⌝ }
+    ensures small { λ r. ⌜ (r .place ≤ 4259840) × (r .substitutes ≤ 65600) ⌝ }
+{
+    let h = Header::of(font);
+    let pointers = fonts::pointers(font, h);
+    let widths = fonts::widths(font, h);
+    pen_along(h, pointers, widths, Pen::at(x), label)
+}
+
+// The reply of an accepted painting, with no panel.
+pub fn measure(font: &[u16], x: i32, label: &[u8]) -> Reply
+    ensures { λ r. ⌜ r ≡ measureOf (now (font .entry)) x (now (label .entry)) ⌝ }
+{
+    let refusal = fonts::number(font);
+    if refusal != 0 {
+        return Reply::Refused(refusal);
+    }
+    if words::outside(x) {
+        return Reply::Refused(10);
+    }
+    if 64 < label.len() {
+        return Reply::Refused(11);
+    }
+    done(last_pen(font, x, label))
 }

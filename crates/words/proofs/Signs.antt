@@ -5,8 +5,10 @@ use mathlib.Core.Bool.{Bool, true, false, cond, true≢false, false≢true}
 use native.Mathlib.Omega.{arith}
 use native.Mathlib.Nat.{add-comm}
 use lib.Dec.{ltb}
-use lib.IntN.{ℤ, pos, negsuc, _+ℤ_}
+use lib.IntN.{ℤ, pos, negsuc, _+ℤ_, subℕ}
 use lib.Signed.{ltZ}
+use mir.Syntax.{w32}
+use mir.Val.{SFits}
 use borrow.Author.Tests.{ltb-false, le-ltb}
 use Rattle.words.specs.Place.{outside, placeOf}
 
@@ -33,3 +35,22 @@ inside (negsuc n) h k =
     let le : n ≤ 1023 = ltb-false 1023 n h in
     let e : 2048 - suc n ≡ 2047 - n = omega arith in
     (rw (h, le-ltb 2048 (suc n) (omega arith)) (ap pos e), rw h (omega arith))
+
+-- ---- the door out
+
+choice-fits : (t : Bool) (a b : ℕ) → a < 2147483648 → b < 2147483648 → SFits w32 (cond t (negsuc a) (pos b))
+choice-fits true a b ha hb = record { sfits = ha }
+choice-fits false a b ha hb = record { sfits = hb }
+
+pub number-fits : (place : ℕ) → place ≤ 2147483647 → SFits w32 (subℕ place 2048)
+number-fits place h = choice-fits (ltb place 2048) (2048 - suc place) (place - 2048) (omega arith) (omega arith)
+
+-- every place of x or y is small
+choice-le : (n m : ℕ) (t : Bool) → ltb 1023 n ≡ t → (n ≤ 1023 → m ≤ 3071) → cond t 0 m ≤ 3071
+choice-le n m true e h = omega arith
+choice-le n m false e h = h (ltb-false 1023 n e)
+
+pub place-le : (x : ℤ) → placeOf x ≤ 3071
+unfolding placeOf
+place-le (pos n) = choice-le n (2048 + n) (ltb 1023 n) refl (λ h. omega arith)
+place-le (negsuc n) = choice-le n (2047 - n) (ltb 1023 n) refl (λ h. omega arith)

@@ -2,8 +2,8 @@
 -- x and y are at least -1024, FBBox is at least -255, and a pen never goes left.
 use Prim.Native.Nat.{ℕ, suc, _+_, _-_, _%_}
 use mathlib.Core.Bool.{Bool, cond}
-use lib.Dec.{leb, ltb}
-use lib.IntN.{ℤ, pos, negsuc}
+use lib.Dec.{ltb}
+use lib.IntN.{ℤ, pos, negsuc, subℕ}
 
 -- refusal 10: "x or y not -1024..1023"
 unfoldable pub outside : ℤ → Bool
@@ -15,9 +15,9 @@ unfoldable pub placeOf : ℤ → ℕ
 placeOf (pos n) = cond (ltb 1023 n) 0 (2048 + n)
 placeOf (negsuc n) = cond (ltb 1023 n) 0 (2047 - n)
 
--- the number that a place stands for
-unfoldable pub numberAt : ℕ → ℤ
-numberAt place = cond (leb 2048 place) (pos (place - 2048)) (negsuc (2047 - place))
+-- the number that a place stands for: place - 2048
+abbrev pub numberAt : ℕ → ℤ
+numberAt place = subℕ place 2048
 
 -- the place of a word in two's complement, for a word from -2048 to 2047
 abbrev pub placeOfWord : ℕ → ℕ
