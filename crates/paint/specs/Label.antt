@@ -6,10 +6,9 @@ use lib.Dec.{ltb, eqb}
 use lib.IntN.{ℤ, pos}
 use lib.ListN.{length}
 use Rattle.words.specs.declared.Effect.{Effect}
-use Rattle.words.specs.Word.{word, over}
 use Rattle.words.specs.Refusal.{firstOf, orElse}
 use Rattle.words.specs.Place.{outside, placeOf, numberAt}
-use Rattle.words.specs.Effect.{applyTo, modeOf}
+use Rattle.words.specs.Effect.{altered, modeOf}
 use Rattle.fonts.specs.Reading.{fontNumber}
 use Rattle.fonts.specs.Face.{faceOf}
 use Rattle.paint.specs.declared.Shape.{Shape}
@@ -75,7 +74,7 @@ callEffect s call i =
 unfoldable pub paintAfter : Shape → Call → List ℕ → List ℕ
 paintAfter s call panel =
     cond (eqb (callNumber s (length panel ∷ []) call) 0)
-    (over (panelWords s) (λ i. applyTo (callEffect s call i) (word panel i)) panel)
+    (altered 0 (panelWords s) (callEffect s call) panel)
     panel
 
 -- "Measuring takes a font, x and a label and gives an accepted painting's reply with no panel; of 8 to 12 only 10, for x, and 11

@@ -35,22 +35,26 @@ penAlong glyph pen (c ∷ label) = penAlong glyph (penAfter pen (glyph c)) label
 -- The dot that a picture puts on a row and column of the panel. "Picture row r lands on panel row y - ascent + r"; its left column goes to
 -- the pen and the glyph's place, in strip columns; "Dots outside the strip or the panel are dropped".
 -- y counts from 2048 above the panel, pen and place together from 4096 left of the strip.
-unfoldable pub mark : Face → Strip → ℕ → Pen → Glyph → ℕ → ℕ → ℕ
-mark face strip y pen g row column =
+unfoldable pub mark : (Glyph → ℕ → ℕ → ℕ) → Strip → ℕ → Pen → Glyph → ℕ → ℕ → ℕ
+mark dot strip y pen g row column =
     let left = pen .place + g .place in
     let at = column - strip .from + 4096 in
     let down = row + 2048 + g .ascent in
     cond (leb (strip .from) column && ltb column (strip .upto) && leb left at && leb y down)
-    (face .dot g (down - y) (at - left))
+    (dot g (down - y) (at - left))
     0
 
 -- the marks of a picture on sixteen columns of a row of the panel, from a column on
-unfoldable pub maskFrom : Face → Strip → ℕ → Pen → Glyph → ℕ → ℕ → ℕ
-maskFrom face strip y pen g row column = wordOf (λ j. mark face strip y pen g row (column + j))
+unfoldable pub maskFrom : (Glyph → ℕ → ℕ → ℕ) → Strip → ℕ → Pen → Glyph → ℕ → ℕ → ℕ
+maskFrom dot strip y pen g row column = wordOf (λ j. mark dot strip y pen g row (column + j))
 
 -- the marks of a picture on word i of the panel, which is sixteen columns of one row
-unfoldable pub maskAt : Face → Shape → Strip → ℕ → Pen → Glyph → ℕ → ℕ
-maskAt face s strip y pen g i = maskFrom face strip y pen g (i / s .rowwords) (16 * (i % s .rowwords))
+unfoldable pub maskAt : (Glyph → ℕ → ℕ → ℕ) → Shape → Strip → ℕ → Pen → Glyph → ℕ → ℕ
+maskAt dot s strip y pen g i = maskFrom dot strip y pen g (i / s .rowwords) (16 * (i % s .rowwords))
+
+-- what a picture does to word i of the panel
+unfoldable pub pictureEffect : (Glyph → ℕ → ℕ → ℕ) → Shape → Strip → ℕ → Mode → Pen → Glyph → ℕ → Effect
+pictureEffect dot s strip y mode pen g i = effectOf mode (maskAt dot s strip y pen g i)
 
 -- "Characters are drawn in order: Paint sets, Erase clears, Invert flips each dot of the picture that is 1. Overlapping characters in
 -- Invert flip twice." What a label does to word i of the panel
@@ -58,4 +62,4 @@ unfoldable pub labelEffect : Face → Shape → Strip → ℕ → Mode → Pen �
 labelEffect face s strip y mode pen [] i = identity
 labelEffect face s strip y mode pen (c ∷ label) i =
     let g = face .glyph c in
-    joinOf (effectOf mode (maskAt face s strip y pen g i)) (labelEffect face s strip y mode (penAfter pen g) label i)
+    joinOf (pictureEffect (face .dot) s strip y mode pen g i) (labelEffect face s strip y mode (penAfter pen g) label i)

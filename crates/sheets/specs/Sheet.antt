@@ -7,7 +7,7 @@ use lib.ListN.{length, take}
 use mathlib.Core.Path.{_≡_}
 use Rattle.words.specs.declared.Effect.{Effect}
 use Rattle.words.specs.Word.{word, over}
-use Rattle.words.specs.Effect.{identity, joinOf, applyTo}
+use Rattle.words.specs.Effect.{identity, joinOf, altered}
 use Rattle.paint.specs.declared.Shape.{Shape}
 use Rattle.paint.specs.declared.Reply.{Reply}
 use Rattle.paint.specs.Panel.{panelWords, panelNumber}
@@ -55,7 +55,7 @@ applyNumber s sheet panel = panelNumber s (length (sheet .keep) ∷ length (shee
 
 unfoldable pub applyAfter : Shape → Sheet → List ℕ → List ℕ
 applyAfter s sheet panel =
-    cond (eqb (applyNumber s sheet panel) 0) (over (panelWords s) (λ i. applyTo (effectAt sheet i) (word panel i)) panel) panel
+    cond (eqb (applyNumber s sheet panel) 0) (altered 0 (panelWords s) (effectAt sheet) panel) panel
 
 -- "Gathering a label joins its effect onto the sheet and replies as painting does."
 unfoldable pub gatherReply : Shape → Call → Sheet → Reply

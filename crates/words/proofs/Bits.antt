@@ -105,7 +105,7 @@ module _ (f : ℕ → ℕ) (bits : (i : ℕ) → f i < 2) where
   delayed s (suc n) =
       ap (wordTo (later s f)) (add-suc s n)
       ∙ ap₂ (λ (w b : ℕ). w * 2 + b) (delayed s n)
-          (ap (λ (t : Bool). cond t (f (s + n - s)) 0) (le-leb s (s + n) (omega arith)) ∙ ap f (add-sub-cancel-left s n))
+      (ap (λ (t : Bool). cond t (f (s + n - s)) 0) (le-leb s (s + n) (omega arith)) ∙ ap f (add-sub-cancel-left s n))
 
   pub shifted-word : (s : ℕ) → s ≤ 16 → wordOf f / 2 ^ s ≡ wordOf (later s f)
   unfolding wordOf

@@ -6,4 +6,5 @@ pub mod Lists
 pub mod Bits
 pub mod Signs
 pub mod Effects
+pub mod Altering
 pub mod Outcomes

@@ -1,10 +1,12 @@
 -- The effect on a word of dots: "Applied, each word d becomes (d AND keep) XOR flip."
-use Prim.Native.Nat.{ℕ, _-_, _<_}
+use Prim.Native.Nat.{ℕ, zero, suc, _+_, _-_, _<_}
 use mathlib.Core.Path.{_≡_}
 use mathlib.Core.Bool.{cond}
+use mathlib.Core.List.{List}
 use lib.Dec.{eqb}
 use lib.Bits.{bitAnd, bitXor}
-use Rattle.words.specs.Word.{bitOf}
+use lib.ListN.{set}
+use Rattle.words.specs.Word.{word, bitOf}
 use Rattle.words.specs.declared.Effect.{Effect}
 use Rattle.words.specs.declared.Mode.{Mode}
 use Rattle.words.specs.declared.Mode.the-variants.{Paint, Erase, Invert}
@@ -54,3 +56,8 @@ joinOf first second =
 -- "Applied, each word d becomes (d AND keep) XOR flip."
 abbrev pub applyTo : Effect → ℕ → ℕ
 applyTo e d = bitXor (bitAnd d (e .keep)) (e .flip)
+
+-- the n words of a lent slice from word k on, each altered by its effect; the rest stays
+unfoldable pub altered : ℕ → ℕ → (ℕ → Effect) → List ℕ → List ℕ
+altered k zero effect lent = lent
+altered k (suc n) effect lent = set (altered k n effect lent) (k + n) (applyTo (effect (k + n)) (word lent (k + n)))
