@@ -1,15 +1,14 @@
 -- What every dot and every code promises.
 use Prim.Native.Nat.{ℕ, _+_, _*_, _/_, _%_, _<_, _≤_}
-use mathlib.Core.Path.{_≡_, refl, sym}
+use mathlib.Core.Path.{_≡_, refl}
 use mathlib.Core.Bool.{Bool, true, false, cond, _&&_}
 use mathlib.Core.List.{List}
 use native.Mathlib.Omega.{arith}
 use native.Mathlib.Nat.{mul-le-mul}
 use lib.Dec.{leb, ltb}
 use borrow.Author.Tests.{leb-true}
-use Rattle.words.specs.Word.{word, wordTo}
+use Rattle.words.specs.Word.{word}
 use Rattle.words.proofs.Digits.{bit-digit}
-use Rattle.words.proofs.Bits.{word-to-more, word-to-fits}
 use Rattle.fonts.specs.declared.Header.{Header}
 use Rattle.fonts.specs.declared.Glyph.{Glyph}
 use Rattle.fonts.specs.Face.{exists, dotOf}
@@ -37,16 +36,6 @@ exists-from h pointers widths c e = leb-true (h .min) c (first-of-three (leb (h 
 -- the dots of a row from a column on, as the bits of a word
 abbrev pub dotsFrom : List ℕ → Glyph → ℕ → ℕ → ℕ → ℕ
 dotsFrom ws g r column i = dotOf ws g r (column + i)
-
-pub one-more-fits : (ws : List ℕ) (g : Glyph) (r column i w d : ℕ)
-    → i < 16 → w ≡ wordTo (dotsFrom ws g r column) i → d ≡ dotOf ws g r (column + i)
-    → w * 2 + d < 65536
-one-more-fits ws g r column i w d h e k = rw (e, k) (word-to-fits (dotsFrom ws g r column) (λ n. dot-bit ws g r (column + n)) i h)
-
-pub one-more : (ws : List ℕ) (g : Glyph) (r column i w d : ℕ)
-    → w ≡ wordTo (dotsFrom ws g r column) i → d ≡ dotOf ws g r (column + i)
-    → w * 2 + d ≡ wordTo (dotsFrom ws g r column) (i + 1)
-one-more ws g r column i w d e k = rw (e, k) (sym (word-to-more (dotsFrom ws g r column) i))
 
 -- a row times the words of a row is far from wrapping
 pub row-start : (row raster : ℕ) → row ≤ 4294967295 → raster ≤ 65535 → row * raster ≤ 281470681677825

@@ -1,3 +1,4 @@
 pub mod Compute
 pub mod Along
 pub mod Replies
+pub mod Marks

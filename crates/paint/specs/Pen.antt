@@ -32,17 +32,20 @@ unfoldable pub penAlong : (ℕ → Glyph) → Pen → List ℕ → Pen
 penAlong glyph pen [] = pen
 penAlong glyph pen (c ∷ label) = penAlong glyph (penAfter pen (glyph c)) label
 
+-- "Dots outside the strip or the panel are dropped": 1 for a column of the strip
+unfoldable pub inStrip : Strip → ℕ → ℕ
+inStrip strip column = cond (leb (strip .from) column && ltb column (strip .upto)) 1 0
+
+-- the dot that a row of a picture has at a place, where its left column is at the place `left`
+unfoldable pub dotAlong : (ℕ → ℕ) → ℕ → ℕ → ℕ
+dotAlong dot left at = cond (leb left at) (dot (at - left)) 0
+
 -- The dot that a picture puts on a row and column of the panel. "Picture row r lands on panel row y - ascent + r"; its left column goes to
--- the pen and the glyph's place, in strip columns; "Dots outside the strip or the panel are dropped".
--- y counts from 2048 above the panel, pen and place together from 4096 left of the strip.
+-- the pen and the glyph's place, in strip columns. y counts from 2048 above the panel, pen and place together from 4096 left of the strip.
 unfoldable pub mark : (Glyph → ℕ → ℕ → ℕ) → Strip → ℕ → Pen → Glyph → ℕ → ℕ → ℕ
 mark dot strip y pen g row column =
-    let left = pen .place + g .place in
-    let at = column - strip .from + 4096 in
     let down = row + 2048 + g .ascent in
-    cond (leb (strip .from) column && ltb column (strip .upto) && leb left at && leb y down)
-    (dot g (down - y) (at - left))
-    0
+    cond (leb y down) (dotAlong (dot g (down - y)) (pen .place + g .place) (column + 4096 - strip .from) * inStrip strip column) 0
 
 -- the marks of a picture on sixteen columns of a row of the panel, from a column on
 unfoldable pub maskFrom : (Glyph → ℕ → ℕ → ℕ) → Strip → ℕ → Pen → Glyph → ℕ → ℕ → ℕ

@@ -8,7 +8,10 @@ ghost use Rattle.paint.specs.Panel.{panelWords, stripOf, badSides, badSh
 ghost use lib.ListN.{length};
 ghost use Rattle.words.specs.Place.{numberAt};
 ghost use Rattle.fonts.specs.Face.{glyphFrom};
-ghost use Rattle.paint.specs.Pen.{penAt, penAfter, penAlong};
+ghost use Rattle.words.specs.Word.{wordOf};
+ghost use Rattle.words.specs.Effect.{altered};
+ghost use Rattle.fonts.specs.Face.{dotOf};
+ghost use Rattle.paint.specs.Pen.{penAt, penAfter, penAlong, inStrip, dotAlong, maskFrom, pictureEffect};
 ghost use Rattle.paint.specs.declared.Reply.the-variants.{Done};
 ghost use Rattle.paint.specs.Label.{lastPen, measureOf};
 
@@ -190,4 +193,59 @@ pub fn measure(font: &[u16], x: i32, label: &[u8]) -> Reply
         return Reply::Refused(11);
     }
     done(last_pen(font, x, label))
+}
+
+// 1 for a column of the strip, 0 for any other.
+fn in_strip(strip: Strip, column: usize) -> u16
+    ensures { λ r. ⌜ r ≡ inStrip strip column ⌝ }
+{
+    if column < strip.from {
+        return 0;
+    }
+    if strip.upto <= column {
+        return 0;
+    }
+    1
+}
+
+// Which of sixteen columns, from `start` on, are in the strip.
+fn clip(strip: Strip, start: usize) -> u16
+    requires { ⌜ start ≤ 4096 ⌝ }
+    ensures { λ r. ⌜ r ≡ wordOf (λ j. inStrip strip (start + j)) ⌝ }
+{
+    let mut word: u16 = 0;
+    for j in 0..16 {
+        word = word * 2 + in_strip(strip, start + j);
+    }
+    word
+}
+
+// Sixteen dots of a picture's row, at the places from `base` on, where its left column is at the place `left`.
+fn aligned(font: &[u16], g: Glyph, row: usize, left: usize, base: usize) -> u16
+    requires { ⌜ base ≤ 8192 ⌝ }
+    ensures { λ r. ⌜ r ≡ wordOf (λ j. dotAlong (dotOf (now (font .entry)) g row) left (base + j)) ⌝ }
+{
+    if left <= base {
+        return g.dots(font, row, (base - left) as u32);
+    }
+    let shift = left - base;
+    if 16 <= shift {
+        return 0;
+    }
+    g.dots(font, row, 0) >> shift
+}
+
+// The marks of a picture on sixteen columns of a row of the panel, from `start` on.
+fn mask(font: &[u16], g: Glyph, strip: Strip, y: usize, pen: Pen, row: usize, start: usize) -> u16
+    requires { ⌜ (pen .place ≤ 4259840) × (row ≤ 4096) ⌝ }
+    requires { ⌜ (strip .from ≤ 4096) × (start ≤ 4096) ⌝ }
+    ensures { λ r. ⌜ r ≡ maskFrom (dotOf (now (font .entry))) strip y pen g row start ⌝ }
+{
+    let down = row + 2048 + g.ascent as usize;
+    if down < y {
+        return 0;
+    }
+    let left = pen.place + g.place as usize;
+    let base = start + 4096 - strip.from;
+    aligned(font, g, down - y, left, base) & clip(strip, start)
 }

@@ -12,20 +12,16 @@ use borrow.Author.Tests.{le-leb, lt-leb}
 use Rattle.words.specs.Word.{bitOf, wordTo, wordOf}
 use Rattle.words.proofs.Digits.{dig, bit-dig, bit-and, dig-of, ext-word}
 
-pub word-to-more : (f : ℕ → ℕ) (n : ℕ) → wordTo f (n + 1) ≡ wordTo f n * 2 + f n
-unfolding wordTo
-word-to-more f n = rw (add-one n)
-
 module _ (f : ℕ → ℕ) (bits : (i : ℕ) → f i < 2) where
   word-to-lt : (n : ℕ) → wordTo f n < 2 ^ n
   unfolding wordTo
   word-to-lt zero = omega arith
   word-to-lt (suc n) = let h : wordTo f n < 2 ^ n = word-to-lt n in rw (pow-suc 2 n) (omega (arith, bits n))
 
-  -- one more bit fits a word, up to the sixteenth
-  pub word-to-fits : (n : ℕ) → n < 16 → wordTo f n * 2 + f n < 65536
+  -- one more bit b behind the first n, which are w: it fits a word, up to the sixteenth, and makes the first n + 1
+  pub one-bit-fits : (n w b : ℕ) → n < 16 → w ≡ wordTo f n → b ≡ f n → w * 2 + b < 65536
   unfolding wordTo
-  word-to-fits n h = lt-of-lt-of-le (word-to-lt (suc n)) (pow-mono {j = 16} h)
+  one-bit-fits n w b h e k = rw (e, k) (lt-of-lt-of-le (word-to-lt (suc n)) (pow-mono {j = 16} h))
 
   pub word-of-lt : wordOf f < 65536
   unfolding wordOf
@@ -46,6 +42,10 @@ module _ (f : ℕ → ℕ) (bits : (i : ℕ) → f i < 2) where
   pub bit-word-of : (j : ℕ) → j < 16 → bitOf (wordOf f) j ≡ f j
   unfolding wordOf
   bit-word-of j h = bit-dig (wordTo f 16) j ∙ digits 16 (15 - j) (omega arith) ∙ ap f (omega arith)
+
+pub one-bit-more : (f : ℕ → ℕ) (n w b : ℕ) → w ≡ wordTo f n → b ≡ f n → w * 2 + b ≡ wordTo f (n + 1)
+unfolding wordTo
+one-bit-more f n w b e k = rw (e, k) (sym (ap (wordTo f) (add-one n)))
 
 -- ---- words of the same bits, and what AND and a shift do to the bits
 

@@ -1,13 +1,14 @@
 -- `fonts::Glyph::dots` meets its contract: the loop makes the word bit by bit, as the definition does.
 -- Assumes nothing.
-use Prim.Native.Nat.{_-_, _≤_}
+use Prim.Native.Nat.{ℕ, _+_, _-_, _≤_, _<_}
 use mathlib.Core.Path.{_≡_, refl}
 use native.Mathlib.Omega.{arith}
 use denote.Ref.{now}
 use borrow.Author.Needs.{needs}
 use Rattle.words.specs.Word.{word, wordTo, wordOf}
 use Rattle.fonts.specs.Face.{dotsOf}
-use Rattle.fonts.proofs.Dots.{dotsFrom, one-more, one-more-fits}
+use Rattle.words.proofs.Bits.{one-bit-more, one-bit-fits}
+use Rattle.fonts.proofs.Dots.{dot-bit, dotsFrom}
 use Rattle.fonts.proofs.Glyph.dots.Statement.{statement}
 use Rattle.fonts.proofs.Glyph.dots.Tie as tie
 
@@ -25,7 +26,9 @@ mul-word : tie.Need-mul-word Inv-loop μ-loop
 mul-word c =
     let b = c .before in
     let a = b .before .before .args in
-    omega (arith, one-more-fits (now (a .font)) (a .self) (a .row) (a .column) (b .loop .i) (b .loop .word) _ (omega arith) (b .loop .inv .1) refl)
+    let f = dotsFrom (now (a .font)) (a .self) (a .row) (a .column) in
+    let bits : (k : ℕ) → f k < 2 = λ k. dot-bit (now (a .font)) (a .self) (a .row) (a .column + k) in
+    omega (arith, one-bit-fits f bits (b .loop .i) (b .loop .word) (f (b .loop .i)) (omega arith) (b .loop .inv .1) refl)
 
 add-dot : tie.Need-add-dot Inv-loop μ-loop
 add-dot c = omega arith
@@ -37,7 +40,9 @@ add-word : tie.Need-add-word Inv-loop μ-loop
 add-word c =
     let b = c .before .before in
     let a = b .before .before .args in
-    record { fits = one-more-fits (now (a .font)) (a .self) (a .row) (a .column) (b .loop .i) _ _ (omega arith) (b .loop .inv .1) (c .dot .ensures) }
+    let f = dotsFrom (now (a .font)) (a .self) (a .row) (a .column) in
+    let bits : (k : ℕ) → f k < 2 = λ k. dot-bit (now (a .font)) (a .self) (a .row) (a .column + k) in
+    record { fits = one-bit-fits f bits (b .loop .i) (b .loop .word) (c .dot .result) (omega arith) (b .loop .inv .1) (c .dot .ensures) }
 
 add-i : tie.Need-add-i Inv-loop μ-loop
 add-i c = omega arith
@@ -49,7 +54,7 @@ loop-again : tie.Need-loop-again Inv-loop μ-loop
 loop-again c =
     let b = c .before .before in
     let a = b .before .before .args in
-    (omega arith, one-more (now (a .font)) (a .self) (a .row) (a .column) (b .loop .i) _ _ (b .loop .inv .1) (c .dot .ensures))
+    (omega arith, one-bit-more (dotsFrom (now (a .font)) (a .self) (a .row) (a .column)) (b .loop .i) (b .loop .word) (c .dot .result) (b .loop .inv .1) (c .dot .ensures))
 
 returns : tie.Need-returns Inv-loop μ-loop
 unfolding dotsOf wordOf
