@@ -2,3 +2,4 @@ pub mod Compute
 pub mod Along
 pub mod Replies
 pub mod Marks
+pub mod Rows

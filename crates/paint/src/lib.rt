@@ -1,15 +1,17 @@
 // Measuring labels, and painting them into the strips of a panel.
 use fonts::Glyph;
 use fonts::Header;
+use words::Effect;
+use words::Mode;
 ghost use mathlib.Core.Path.{_≡_};
 ghost use mathlib.Core.List.{[], _∷_};
-ghost use Prim.Native.Nat.{_+_, _≤_};
+ghost use Prim.Native.Nat.{_+_, _-_, _*_, _≤_, _<_, min};
 ghost use Rattle.paint.specs.Panel.{panelWords, stripOf, badSides, badShape, badPanel};
 ghost use lib.ListN.{length};
 ghost use Rattle.words.specs.Place.{numberAt};
 ghost use Rattle.fonts.specs.Face.{glyphFrom};
 ghost use Rattle.words.specs.Word.{wordOf};
-ghost use Rattle.words.specs.Effect.{altered};
+ghost use Rattle.words.specs.Effect.{applyTo, effectOf, altered};
 ghost use Rattle.fonts.specs.Face.{dotOf};
 ghost use Rattle.paint.specs.Pen.{penAt, penAfter, penAlong, inStrip, dotAlong, maskFrom, pictureEffect};
 ghost use Rattle.paint.specs.declared.Reply.the-variants.{Done};
@@ -248,4 +250,52 @@ fn mask(font: &[u16], g: Glyph, strip: Strip, y: usize, pen: Pen, row: usize, st
     let left = pen.place + g.place as usize;
     let base = start + 4096 - strip.from;
     aligned(font, g, down - y, left, base) & clip(strip, start)
+}
+
+// A word of the panel, sixteen columns of a row from `start` on, with a picture's marks on it.
+fn marked(
+    font: &[u16],
+    g: Glyph,
+    strip: Strip,
+    y: usize,
+    mode: Mode,
+    pen: Pen,
+    row: usize,
+    start: usize,
+    word: u16,
+) -> u16
+    requires { ⌜ (pen .place ≤ 4259840) × (row ≤ 4096) ⌝ }
+    requires { ⌜ (strip .from ≤ 4096) × (start ≤ 4096) ⌝ }
+    ensures { λ r. ⌜ r ≡ applyTo (effectOf mode (maskFrom (dotOf (now (font .entry))) strip y pen g row start)) word ⌝ }
+{
+    let marks = mask(font, g, strip, y, pen, row, start);
+    Effect::of(mode, marks).apply(word)
+}
+
+// A picture's marks on the `count` words from word `first` of a row of the panel on.
+fn paint_row(
+    font: &[u16],
+    g: Glyph,
+    s: Shape,
+    strip: Strip,
+    y: usize,
+    mode: Mode,
+    pen: Pen,
+    row: usize,
+    first: usize,
+    count: usize,
+    panel: &mut [u16],
+)
+    requires { ⌜ (pen .place ≤ 4259840) × (strip .from ≤ 4096) ⌝ }
+    requires { ⌜ (s .rowwords ≤ 128) × (row < 256) ⌝ }
+    requires { ⌜ (first + count ≤ s .rowwords) × (row * s .rowwords + s .rowwords ≤ length (now panel)) ⌝ }
+    ensures { λ r. ⌜ now (panel .exit) ≡ altered (row * s .rowwords + first) count (pictureEffect (dotOf (now (font .entry))) s strip y mode pen g) (now (panel .entry)) ⌝ }
+{
+    let at = row * (s.rowwords as usize) + first;
+    let mut n = 0;
+    while n < count {
+        let word = panel[at + n];
+        panel[at + n] = marked(font, g, strip, y, mode, pen, row, 16 * (first + n), word);
+        n += 1;
+    }
 }

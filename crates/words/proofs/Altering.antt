@@ -129,3 +129,31 @@ altered-twice n e f p fits =
         let past : n ≤ i = ltb-false i n q in
         altered-past 0 f (altered 0 n e p) n i (omega arith) ∙ altered-past 0 e p n i (omega arith)
         ∙ sym (altered-past 0 (λ i. joinOf (e i) (f i)) p n i (omega arith))
+
+-- what a loop does in a turn: the next word becomes its effect on what stands there
+pub altered-step : (k n d : ℕ) (e : ℕ → Effect) (now before : List ℕ)
+    → now ≡ altered k n e before → d ≡ applyTo (e (k + n)) (word now (k + n)) → set now (k + n) d ≡ altered k (n + 1) e before
+altered-step k n d e now before same becomes =
+    ap (set now (k + n)) becomes
+    ∙ ap (λ (q : List ℕ). set q (k + n) (applyTo (e (k + n)) (word q (k + n)))) same
+    ∙ sym (altered-more k n e before)
+
+pub altered-same : (k n : ℕ) (e f : ℕ → Effect) (p : List ℕ) → ((j : ℕ) → j < n → e (k + j) ≡ f (k + j)) → altered k n e p ≡ altered k n f p
+unfolding altered
+altered-same k zero e f p same = refl
+altered-same k (suc n) e f p same =
+    ap₂ (λ (q : List ℕ) (h : Effect). set q (k + n) (applyTo h (word p (k + n))))
+    (altered-same k n e f p (λ j less. same j (omega arith)))
+    (same n (omega arith))
+
+-- only the middle of a run alters anything
+pub altered-middle : (k a b c : ℕ) (e : ℕ → Effect) (p : List ℕ) → ((i : ℕ) → OfWords (e i)) → AllWords p
+    → ((j : ℕ) → j < a → e (k + j) ≡ identity)
+    → ((j : ℕ) → j < c → e (k + a + b + j) ≡ identity)
+    → altered k (a + b + c) e p ≡ altered (k + a) b e p
+altered-middle k a b c e p ofwords words left right =
+    altered-on k (a + b) c e p
+    ∙ ap (λ (i : ℕ). altered i c e (altered k (a + b) e p)) (sym (add-assoc k a b))
+    ∙ altered-idle (k + a + b) c e (altered k (a + b) e p) (altered-words k (a + b) e p ofwords words) right
+    ∙ altered-on k a b e p
+    ∙ ap (altered (k + a) b e) (altered-idle k a e p words left)
