@@ -2,14 +2,14 @@
 use Prim.Native.Nat.{ℕ, _+_, _-_, _*_, _/_, _^_, _<_, _≤_, min}
 use mathlib.Core.Path.{_≡_, refl, sym, ap, ap₂, _∙_}
 use mathlib.Core.Bool.{Bool, true, false, cond, _&&_}
-use native.Mathlib.Nat.{zero-add}
+use native.Mathlib.Nat.{zero-add, zero-mul, one-mul, mul-zero}
 use native.Mathlib.Omega.{arith}
 use lib.Bits.{bitAnd}
 use lib.Dec.{leb, ltb}
-use borrow.Author.Tests.{le-leb, lt-leb, leb-true, leb-false}
+use borrow.Author.Tests.{le-leb, lt-leb, leb-true, leb-false, le-ltb}
 use Rattle.words.specs.Word.{wordOf}
 use Rattle.words.proofs.BitLaws.{on-digit}
-use Rattle.words.proofs.Bits.{word-of-same, word-of-none, and-words, later, shifted-word}
+use Rattle.words.proofs.Bits.{word-of-same, word-of-none, word-of-lt, and-words, later, shifted-word}
 use Rattle.fonts.specs.declared.Glyph.{Glyph}
 use Rattle.paint.specs.declared.Strip.{Strip}
 use Rattle.paint.specs.declared.Pen.{Pen}
@@ -89,3 +89,50 @@ module _ (dot : Glyph → ℕ → ℕ → ℕ) (strip : Strip) (y : ℕ) (pen : 
       (λ j less. let e : start + 4096 - strip .from + j ≡ start + j + 4096 - strip .from = omega arith in
       rw (le-leb y (row + 2048 + g .ascent) h)
       (ap (λ (at : ℕ). dotAlong (dot g (row + 2048 + g .ascent - y)) (pen .place + g .place) at * inStrip strip (start + j)) e))
+
+  mark-product : (t : Bool) (a b : ℕ) → a < 2 → b < 2 → cond t (a * b) 0 < 2
+  mark-product true a b ha hb = on-digit (λ (x : ℕ). x * b < 2) (rw (zero-mul b) (omega arith)) (rw (one-mul b) hb) a ha
+  mark-product false a b ha hb = omega arith
+
+  pub mask-lt : ((i j : ℕ) → dot g i j < 2) → maskFrom dot strip y pen g row start < 65536
+  unfolding maskFrom mark
+  mask-lt bits =
+      word-of-lt _
+      (λ j. mark-product (leb y (row + 2048 + g .ascent)) _ _
+        (along-bit (dot g (row + 2048 + g .ascent - y)) (bits (row + 2048 + g .ascent - y)) (pen .place + g .place) 0 (start + j + 4096 - strip .from))
+        (in-strip-bit strip (start + j)))
+
+  choice-zero : (t : Bool) (a : ℕ) → a ≡ 0 → cond t a 0 ≡ 0
+  choice-zero true a e = e
+  choice-zero false a e = refl
+
+  -- the row lies below the picture
+  pub mask-under : ((i j : ℕ) → g .height ≤ i → dot g i j ≡ 0) → y + g .height ≤ row + 2048 + g .ascent → maskFrom dot strip y pen g row start ≡ 0
+  unfolding maskFrom mark dotAlong
+  mask-under past h =
+      word-of-none _
+      (λ j less. choice-zero (leb y (row + 2048 + g .ascent)) _
+        (ap (λ (d : ℕ). d * inStrip strip (start + j)) (choice-zero (leb (pen .place + g .place) (start + j + 4096 - strip .from)) _ (past (row + 2048 + g .ascent - y) _ (omega arith)))
+        ∙ zero-mul (inStrip strip (start + j))))
+
+  -- the sixteen columns lie outside the strip
+  pub mask-beside : ((j : ℕ) → j < 16 → inStrip strip (start + j) ≡ 0) → maskFrom dot strip y pen g row start ≡ 0
+  unfolding maskFrom mark
+  mask-beside outside =
+      word-of-none _
+      (λ j less. choice-zero (leb y (row + 2048 + g .ascent)) _
+        (ap (λ (b : ℕ). dotAlong (dot g (row + 2048 + g .ascent - y)) (pen .place + g .place) (start + j + 4096 - strip .from) * b) (outside j less)
+        ∙ mul-zero (dotAlong (dot g (row + 2048 + g .ascent - y)) (pen .place + g .place) (start + j + 4096 - strip .from))))
+
+-- a column left of the strip, and one right of it
+pub strip-right-of : (strip : Strip) (column : ℕ) → column < strip .from → inStrip strip column ≡ 0
+unfolding inStrip
+strip-right-of strip column h = rw (lt-leb (strip .from) column h)
+
+both-fail : (s t : Bool) → t ≡ false → _≡_ {A = ℕ} (cond (s && t) 1 0) 0
+both-fail true t e = rw e
+both-fail false t e = refl
+
+pub strip-left-of : (strip : Strip) (column : ℕ) → strip .upto ≤ column → inStrip strip column ≡ 0
+unfolding inStrip
+strip-left-of strip column h = both-fail (leb (strip .from) column) (ltb column (strip .upto)) (le-ltb column (strip .upto) h)
