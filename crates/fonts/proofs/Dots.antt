@@ -6,7 +6,7 @@ use mathlib.Core.List.{List}
 use native.Mathlib.Omega.{arith}
 use native.Mathlib.Nat.{mul-le-mul}
 use lib.Dec.{leb, ltb}
-use borrow.Author.Tests.{leb-true}
+use borrow.Author.Tests.{leb-true, le-ltb}
 use Rattle.words.specs.Word.{word}
 use Rattle.words.proofs.Digits.{bit-digit}
 use Rattle.fonts.specs.declared.Header.{Header}
@@ -40,3 +40,8 @@ dotsFrom ws g r column i = dotOf ws g r (column + i)
 -- a row times the words of a row is far from wrapping
 pub row-start : (row raster : ℕ) → row ≤ 4294967295 → raster ≤ 65535 → row * raster ≤ 281470681677825
 row-start row raster h k = mul-le-mul h k
+
+-- no dot lies in a row past the picture
+pub dot-past : (ws : List ℕ) (g : Glyph) (r j : ℕ) → g .height ≤ r → dotOf ws g r j ≡ 0
+unfolding dotOf
+dot-past ws g r j h = rw (le-ltb r (g .height) h)

@@ -99,8 +99,8 @@ module _ (dot : Glyph → ℕ → ℕ → ℕ) (strip : Strip) (y : ℕ) (pen : 
   mask-lt bits =
       word-of-lt _
       (λ j. mark-product (leb y (row + 2048 + g .ascent)) _ _
-        (along-bit (dot g (row + 2048 + g .ascent - y)) (bits (row + 2048 + g .ascent - y)) (pen .place + g .place) 0 (start + j + 4096 - strip .from))
-        (in-strip-bit strip (start + j)))
+      (along-bit (dot g (row + 2048 + g .ascent - y)) (bits (row + 2048 + g .ascent - y)) (pen .place + g .place) 0 (start + j + 4096 - strip .from))
+      (in-strip-bit strip (start + j)))
 
   choice-zero : (t : Bool) (a : ℕ) → a ≡ 0 → cond t a 0 ≡ 0
   choice-zero true a e = e
@@ -112,8 +112,8 @@ module _ (dot : Glyph → ℕ → ℕ → ℕ) (strip : Strip) (y : ℕ) (pen : 
   mask-under past h =
       word-of-none _
       (λ j less. choice-zero (leb y (row + 2048 + g .ascent)) _
-        (ap (λ (d : ℕ). d * inStrip strip (start + j)) (choice-zero (leb (pen .place + g .place) (start + j + 4096 - strip .from)) _ (past (row + 2048 + g .ascent - y) _ (omega arith)))
-        ∙ zero-mul (inStrip strip (start + j))))
+      (ap (λ (d : ℕ). d * inStrip strip (start + j)) (choice-zero (leb (pen .place + g .place) (start + j + 4096 - strip .from)) _ (past (row + 2048 + g .ascent - y) _ (omega arith)))
+      ∙ zero-mul (inStrip strip (start + j))))
 
   -- the sixteen columns lie outside the strip
   pub mask-beside : ((j : ℕ) → j < 16 → inStrip strip (start + j) ≡ 0) → maskFrom dot strip y pen g row start ≡ 0
@@ -121,8 +121,8 @@ module _ (dot : Glyph → ℕ → ℕ → ℕ) (strip : Strip) (y : ℕ) (pen : 
   mask-beside outside =
       word-of-none _
       (λ j less. choice-zero (leb y (row + 2048 + g .ascent)) _
-        (ap (λ (b : ℕ). dotAlong (dot g (row + 2048 + g .ascent - y)) (pen .place + g .place) (start + j + 4096 - strip .from) * b) (outside j less)
-        ∙ mul-zero (dotAlong (dot g (row + 2048 + g .ascent - y)) (pen .place + g .place) (start + j + 4096 - strip .from))))
+      (ap (λ (b : ℕ). dotAlong (dot g (row + 2048 + g .ascent - y)) (pen .place + g .place) (start + j + 4096 - strip .from) * b) (outside j less)
+      ∙ mul-zero (dotAlong (dot g (row + 2048 + g .ascent - y)) (pen .place + g .place) (start + j + 4096 - strip .from))))
 
 -- a column left of the strip, and one right of it
 pub strip-right-of : (strip : Strip) (column : ℕ) → column < strip .from → inStrip strip column ≡ 0

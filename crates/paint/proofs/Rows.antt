@@ -2,7 +2,7 @@
 use Prim.Native.Nat.{ℕ, _+_, _-_, _*_, _/_, _%_, _<_, _≤_, min}
 use mathlib.Core.Path.{_≡_, refl, sym, ap, ap₂, _∙_}
 use mathlib.Core.List.{List}
-use native.Mathlib.Nat.{mul-le-mul, mul-add-div-right, mul-add-mod-self-right, div-eq-of-lt, mod-eq-of-lt, add-zero, zero-add, add-assoc, add-mul, suc-mul, mul-comm, add-sub-of-le, div-lt-iff-lt-mul, le-div-iff-mul-le}
+use native.Mathlib.Nat.{mul-le-mul, mul-add-div-right, mul-add-mod-self-right, div-eq-of-lt, mod-eq-of-lt, add-zero, zero-add, add-assoc, add-mul, suc-mul, mul-comm, add-sub-of-le, div-lt-iff-lt-mul, le-div-iff-mul-le, mul-le-mul-right}
 use native.Mathlib.Numerals.{add-one}
 use native.Mathlib.Omega.{arith}
 use Rattle.words.specs.declared.Effect.{Effect}
@@ -64,9 +64,9 @@ module _ (dot : Glyph → ℕ → ℕ → ℕ) (s : Shape) (strip : Strip) (y : 
   above-idle rows h =
       altered-idle 0 (rows * s .rowwords) effect lent words
       (λ j less.
-        let i = 0 + j in
-        let row : i / s .rowwords < rows = div-lt-iff-lt-mul some .1 (rw (zero-add j) less) in
-        no-marks mode _ (sym (mask-above dot strip y pen g (i / s .rowwords) (16 * (i % s .rowwords)) (omega arith))))
+      let i = 0 + j in
+      let row : i / s .rowwords < rows = div-lt-iff-lt-mul some .1 (rw (zero-add j) less) in
+      no-marks mode _ (sym (mask-above dot strip y pen g (i / s .rowwords) (16 * (i % s .rowwords)) (omega arith))))
 
   -- the rows below it
   pub under-idle : (end : ℕ) → end ≡ min (s .rows) (y + g .height - (2048 + g .ascent))
@@ -75,14 +75,14 @@ module _ (dot : Glyph → ℕ → ℕ → ℕ) (s : Shape) (strip : Strip) (y : 
   under-idle end h =
       let le : end ≤ s .rows = omega arith in
       let whole : end * s .rowwords + (s .rows - end) * s .rowwords ≡ s .rowwords * s .rows =
-          sym (add-mul end (s .rows - end) (s .rowwords)) ∙ ap (λ (n : ℕ). n * s .rowwords) (add-sub-of-le le) ∙ mul-comm (s .rows) (s .rowwords) in
+      sym (add-mul end (s .rows - end) (s .rowwords)) ∙ ap (λ (n : ℕ). n * s .rowwords) (add-sub-of-le le) ∙ mul-comm (s .rows) (s .rowwords) in
       let before = altered 0 (end * s .rowwords) effect lent in
       sym (altered-idle (0 + end * s .rowwords) ((s .rows - end) * s .rowwords) effect before (altered-words 0 (end * s .rowwords) effect lent effect-words words)
       (λ j less.
-        let i = 0 + end * s .rowwords + j in
-        let from : end ≤ i / s .rowwords = le-div-iff-mul-le some .1 (omega arith) in
-        let upto : i / s .rowwords < s .rows = div-lt-iff-lt-mul some .1 (omega (arith, whole, mul-comm (s .rows) (s .rowwords))) in
-        no-marks mode _ (mask-under dot strip y pen g (i / s .rowwords) (16 * (i % s .rowwords)) past (omega arith))))
+      let i = 0 + end * s .rowwords + j in
+      let from : end ≤ i / s .rowwords = le-div-iff-mul-le some .1 (omega arith) in
+      let upto : i / s .rowwords < s .rows = div-lt-iff-lt-mul some .1 (omega (arith, whole, mul-comm (s .rows) (s .rowwords))) in
+      no-marks mode _ (mask-under dot strip y pen g (i / s .rowwords) (16 * (i % s .rowwords)) past (omega arith))))
       ∙ sym (altered-on 0 (end * s .rowwords) ((s .rows - end) * s .rowwords) effect lent)
       ∙ ap (λ (n : ℕ). altered 0 n effect lent) whole
 
@@ -93,15 +93,22 @@ module _ (dot : Glyph → ℕ → ℕ → ℕ) (s : Shape) (strip : Strip) (y : 
       let rest = s .rowwords - (first + count) in
       let whole : first + count + rest ≡ s .rowwords = omega arith in
       let next : row * s .rowwords + (first + count + rest) ≡ (row + 1) * s .rowwords =
-          ap (λ (n : ℕ). row * s .rowwords + n) whole ∙ sym (ap (λ (n : ℕ). n * s .rowwords) (add-one row) ∙ suc-mul row (s .rowwords)) in
+      ap (λ (n : ℕ). row * s .rowwords + n) whole ∙ sym (ap (λ (n : ℕ). n * s .rowwords) (add-one row) ∙ suc-mul row (s .rowwords)) in
       let before = altered 0 (row * s .rowwords) effect lent in
       sym (altered-middle (row * s .rowwords) first count rest effect before effect-words (altered-words 0 (row * s .rowwords) effect lent effect-words words)
-        (λ j less. picture-at dot s strip y mode pen g row j (omega arith)
-          ∙ no-marks mode _ (mask-beside dot strip y pen g row (16 * j) (λ k small. strip-right-of strip (16 * j + k) (omega arith))))
-        (λ j less.
-          ap effect (add-assoc (row * s .rowwords + first) count j ∙ add-assoc (row * s .rowwords) first (count + j))
-          ∙ picture-at dot s strip y mode pen g row (first + (count + j)) (omega arith)
-          ∙ no-marks mode _ (mask-beside dot strip y pen g row (16 * (first + (count + j))) (λ k small. strip-left-of strip (16 * (first + (count + j)) + k) (omega arith)))))
+      (λ j less. picture-at dot s strip y mode pen g row j (omega arith)
+      ∙ no-marks mode _ (mask-beside dot strip y pen g row (16 * j) (λ k small. strip-right-of strip (16 * j + k) (omega arith))))
+      (λ j less.
+      ap effect (add-assoc (row * s .rowwords + first) count j ∙ add-assoc (row * s .rowwords) first (count + j))
+      ∙ picture-at dot s strip y mode pen g row (first + (count + j)) (omega arith)
+      ∙ no-marks mode _ (mask-beside dot strip y pen g row (16 * (first + (count + j))) (λ k small. strip-left-of strip (16 * (first + (count + j)) + k) (omega arith)))))
       ∙ ap (λ (k : ℕ). altered k (first + count + rest) effect before) (sym (zero-add (row * s .rowwords)))
       ∙ sym (altered-on 0 (row * s .rowwords) (first + count + rest) effect lent)
       ∙ ap (λ (n : ℕ). altered 0 n effect lent) next
+
+-- a row within the panel ends within its words
+pub row-room : (row rows rowwords room : ℕ) → row < rows → rowwords * rows ≤ room → row * rowwords + rowwords ≤ room
+row-room row rows rowwords room h k =
+    let upto : (row + 1) * rowwords ≤ rows * rowwords = mul-le-mul-right rowwords (omega arith) in
+    let next : (row + 1) * rowwords ≡ row * rowwords + rowwords = ap (λ (n : ℕ). n * rowwords) (add-one row) ∙ suc-mul row rowwords in
+    omega (arith, mul-comm rows rowwords)

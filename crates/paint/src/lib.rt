@@ -299,3 +299,64 @@ fn paint_row(
         n += 1;
     }
 }
+
+fn least(a: usize, b: usize) -> usize
+    ensures { λ r. ⌜ r ≡ min a b ⌝ }
+{
+    if a < b {
+        return a;
+    }
+    b
+}
+
+// The first row of the panel that a picture reaches.
+fn first_row(g: Glyph, y: usize, rows: usize) -> usize
+    ensures { λ r. ⌜ r ≡ min rows (y - (2048 + g .ascent)) ⌝ }
+{
+    let above = 2048 + g.ascent as usize;
+    if y <= above {
+        return 0;
+    }
+    least(rows, y - above)
+}
+
+// The row of the panel behind the last that a picture reaches.
+fn end_row(g: Glyph, y: usize, rows: usize) -> usize
+    requires { ⌜ y ≤ 65536 ⌝ }
+    ensures { λ r. ⌜ r ≡ min rows (y + g .height - (2048 + g .ascent)) ⌝ }
+{
+    let above = 2048 + g.ascent as usize;
+    let below = y + g.height as usize;
+    if below <= above {
+        return 0;
+    }
+    least(rows, below - above)
+}
+
+// A picture's marks on the panel: on the rows that it reaches, and there on the words that the strip reaches.
+fn paint_picture(
+    font: &[u16],
+    g: Glyph,
+    s: Shape,
+    strip: Strip,
+    y: usize,
+    mode: Mode,
+    pen: Pen,
+    panel: &mut [u16],
+)
+    requires { ⌜ (pen .place ≤ 4259840) × (y ≤ 65536) ⌝ }
+    requires { ⌜ (1 ≤ s .rowwords) × ((s .rowwords ≤ 128) × (s .rows ≤ 256)) ⌝ }
+    requires { ⌜ (strip .from ≤ strip .upto) × (strip .upto ≤ 16 * s .rowwords) ⌝ }
+    requires { ⌜ s .rowwords * s .rows ≤ length (now panel) ⌝ }
+    ensures { λ r. ⌜ now (panel .exit) ≡ altered 0 (s .rowwords * s .rows) (pictureEffect (dotOf (now (font .entry))) s strip y mode pen g) (now (panel .entry)) ⌝ }
+{
+    let first = strip.from / 16;
+    let count = (strip.upto + 15) / 16 - first;
+    let rows = s.rows as usize;
+    let end = end_row(g, y, rows);
+    let mut row = first_row(g, y, rows);
+    while row < end {
+        paint_row(font, g, s, strip, y, mode, pen, row, first, count, panel);
+        row += 1;
+    }
+}
