@@ -3,3 +3,4 @@ pub mod Along
 pub mod Replies
 pub mod Marks
 pub mod Rows
+pub mod Labels

@@ -9,11 +9,11 @@ ghost use Prim.Native.Nat.{_+_, _-_, _*_, _≤_, _<_, min};
 ghost use Rattle.paint.specs.Panel.{panelWords, stripOf, badSides, badShape, badPanel};
 ghost use lib.ListN.{length};
 ghost use Rattle.words.specs.Place.{numberAt};
-ghost use Rattle.fonts.specs.Face.{glyphFrom};
+ghost use Rattle.fonts.specs.Face.{glyphFrom, faceFrom};
 ghost use Rattle.words.specs.Word.{wordOf};
 ghost use Rattle.words.specs.Effect.{applyTo, effectOf, altered};
 ghost use Rattle.fonts.specs.Face.{dotOf};
-ghost use Rattle.paint.specs.Pen.{penAt, penAfter, penAlong, inStrip, dotAlong, maskFrom, pictureEffect};
+ghost use Rattle.paint.specs.Pen.{penAt, penAfter, penAlong, inStrip, dotAlong, maskFrom, pictureEffect, labelEffect};
 ghost use Rattle.paint.specs.declared.Reply.the-variants.{Done};
 ghost use Rattle.paint.specs.Label.{lastPen, measureOf};
 
@@ -359,4 +359,37 @@ fn paint_picture(
         paint_row(font, g, s, strip, y, mode, pen, row, first, count, panel);
         row += 1;
     }
+}
+
+// A label's characters, in order, on the panel. Hands back the pen after the last.
+fn paint_label(
+    font: &[u16],
+    h: Header,
+    pointers: &[u16],
+    widths: &[u16],
+    s: Shape,
+    strip: Strip,
+    y: usize,
+    mode: Mode,
+    start: Pen,
+    label: &[u8],
+    panel: &mut [u16],
+) -> Pen
+    requires { ⌜ (start .place ≤ 65536) × ((start .substitutes ≤ 65536) × (y ≤ 65536)) ⌝ }
+    requires { ⌜ (1 ≤ s .rowwords) × ((s .rowwords ≤ 128) × (s .rows ≤ 256)) ⌝ }
+    requires { ⌜ (strip .from ≤ strip .upto) × (strip .upto ≤ 16 * s .rowwords) ⌝ }
+    requires { ⌜ (s .rowwords * s .rows ≤ length (now panel)) × (length (now label) ≤ 64) ⌝ }
+    ensures { λ r. ⌜ r ≡ penAlong (glyphFrom h (now (pointers .entry)) (now (widths .entry))) start (now (label .entry)) ⌝ }
+    ensures small { λ r. ⌜ (r .place ≤ 4259840) × (r .substitutes ≤ 65600) ⌝ }
+    ensures panel { λ r. ⌜ now (panel .exit) ≡ altered 0 (s .rowwords * s .rows) (labelEffect (faceFrom h (now (pointers .entry)) (now (widths .entry)) (now (font .entry))) s strip y mode start (now (label .entry))) (now (panel .entry)) ⌝ }
+{
+    let mut pen = start;
+    let mut i = 0;
+    while i < label.len() {
+        let g = Glyph::of(h, pointers, widths, code(label[i]));
+        paint_picture(font, g, s, strip, y, mode, pen, panel);
+        pen = pen.after(g);
+        i += 1;
+    }
+    pen
 }

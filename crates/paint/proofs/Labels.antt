@@ -1,0 +1,40 @@
+-- A label on the panel, one character at a time: the first character's marks, and then those of the rest.
+use Prim.Native.Nat.{ℕ, suc, _+_, _<_, _≤_}
+use mathlib.Core.Path.{_≡_, refl, sym, ap, _∙_}
+use mathlib.Core.List.{List, [], _∷_}
+use native.Mathlib.Numerals.{add-one}
+use lib.ListN.{length, getD, drop, drop-of-length-le}
+use lib.Seq.{drop-cons}
+use Rattle.words.specs.declared.Mode.{Mode}
+use Rattle.words.specs.Effect.{altered}
+use Rattle.words.proofs.Altering.{AllWords, altered-idle, altered-twice}
+use Rattle.fonts.specs.Face.{Face}
+use Rattle.paint.specs.declared.Shape.{Shape}
+use Rattle.paint.specs.declared.Strip.{Strip}
+use Rattle.paint.specs.declared.Pen.{Pen}
+use Rattle.paint.specs.Pen.{penAfter, pictureEffect, labelEffect}
+
+module _ (face : Face) (s : Shape) (strip : Strip) (y : ℕ) (mode : Mode) (n : ℕ) where
+  -- the panel with a label painted on it
+  abbrev pub painted : Pen → List ℕ → List ℕ → List ℕ
+  painted pen label panel = altered 0 n (labelEffect face s strip y mode pen label) panel
+
+  first-then-rest : (pen : Pen) (c : ℕ) (rest panel : List ℕ) → n ≤ length panel
+      → painted pen (c ∷ rest) panel
+      ≡ painted (penAfter pen (face .glyph c)) rest (altered 0 n (pictureEffect (face .dot) s strip y mode pen (face .glyph c)) panel)
+  unfolding labelEffect
+  first-then-rest pen c rest panel fits = sym (altered-twice n _ _ panel fits)
+
+  pub label-more : (label : List ℕ) (i : ℕ) (pen : Pen) (panel : List ℕ) → i < length label → n ≤ length panel
+      → painted pen (drop i label) panel
+      ≡ painted (penAfter pen (face .glyph (getD label i 0))) (drop (i + 1) label)
+      (altered 0 n (pictureEffect (face .dot) s strip y mode pen (face .glyph (getD label i 0))) panel)
+  label-more label i pen panel here fits =
+      ap (λ (l : List ℕ). painted pen l panel) (drop-cons label i 0 here)
+      ∙ first-then-rest pen (getD label i 0) (drop (suc i) label) panel fits
+      ∙ ap (λ (k : ℕ). painted (penAfter pen (face .glyph (getD label i 0))) (drop k label)
+      (altered 0 n (pictureEffect (face .dot) s strip y mode pen (face .glyph (getD label i 0))) panel)) (sym (add-one i))
+
+  pub label-done : (label : List ℕ) (i : ℕ) (pen : Pen) (panel : List ℕ) → length label ≤ i → AllWords panel → painted pen (drop i label) panel ≡ panel
+  unfolding labelEffect
+  label-done label i pen panel past words = rw (drop-of-length-le label past) (altered-idle 0 n _ panel words (λ j less. refl))
