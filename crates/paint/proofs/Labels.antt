@@ -8,7 +8,9 @@ use lib.Seq.{drop-cons}
 use Rattle.words.specs.declared.Mode.{Mode}
 use Rattle.words.specs.Effect.{altered}
 use Rattle.words.proofs.Altering.{AllWords, altered-idle, altered-twice}
-use Rattle.fonts.specs.Face.{Face}
+use Rattle.fonts.specs.declared.Header.{Header}
+use Rattle.fonts.specs.Strike.{headerOf, pointersOf, widthsOf}
+use Rattle.fonts.specs.Face.{Face, glyphFrom, faceFrom, faceOf}
 use Rattle.paint.specs.declared.Shape.{Shape}
 use Rattle.paint.specs.declared.Strip.{Strip}
 use Rattle.paint.specs.declared.Pen.{Pen}
@@ -38,3 +40,20 @@ module _ (face : Face) (s : Shape) (strip : Strip) (y : ℕ) (mode : Mode) (n : 
   pub label-done : (label : List ℕ) (i : ℕ) (pen : Pen) (panel : List ℕ) → length label ≤ i → AllWords panel → painted pen (drop i label) panel ≡ panel
   unfolding labelEffect
   label-done label i pen panel past words = rw (drop-of-length-le label past) (altered-idle 0 n _ panel words (λ j less. refl))
+
+-- ---- the face of a font, by the header and the tables that were read from it
+
+module _ (h : Header) (pointers widths ws : List ℕ) (header : h ≡ headerOf ws) (table : pointers ≡ pointersOf h ws) (entries : widths ≡ widthsOf h ws) where
+  pub face-is : faceFrom h pointers widths ws ≡ faceOf ws
+  unfolding faceOf
+  face-is = rw (table, entries) (ap (λ (k : Header). faceFrom k (pointersOf k ws) (widthsOf k ws) ws) header)
+
+  pub glyph-is : glyphFrom h pointers widths ≡ faceOf ws .glyph
+  unfolding faceFrom
+  glyph-is = ap (λ (f : Face). f .glyph) face-is
+
+-- the same label, by parts that are equal
+pub same-label : (s : Shape) (n : ℕ) (label panel : List ℕ) {f f′ : Face} {a a′ : Strip} {y y′ : ℕ} {m m′ : Mode} {p p′ : Pen}
+    → f ≡ f′ → a ≡ a′ → y ≡ y′ → m ≡ m′ → p ≡ p′
+    → altered 0 n (labelEffect f s a y m p label) panel ≡ altered 0 n (labelEffect f′ s a′ y′ m′ p′ label) panel
+same-label s n label panel face area row mode pen = λ i. altered 0 n (labelEffect (face i) s (area i) (row i) (mode i) (pen i) label) panel

@@ -4,3 +4,4 @@ pub mod Replies
 pub mod Marks
 pub mod Rows
 pub mod Labels
+pub mod Accepted

@@ -15,7 +15,7 @@ use Rattle.paint.specs.declared.Shape.{Shape}
 use Rattle.paint.specs.declared.Pen.{Pen}
 use Rattle.paint.specs.declared.Reply.{Reply}
 use Rattle.paint.specs.declared.Reply.the-variants.{Done, Refused}
-use Rattle.paint.specs.Panel.{panelWords, stripOf, badPanel}
+use Rattle.paint.specs.Panel.{panelWords, stripOf, panelNumber}
 use Rattle.paint.specs.Pen.{penAt, penAlong, labelEffect}
 
 -- "A label call has a font, shape, strip, starting pen x in strip columns, baseline row y, mode, and label bytes used as codes."
@@ -28,18 +28,19 @@ pub record Call : Type 0 where
   pub mode : ℕ
   pub label : List ℕ
 
--- "9 strip over 31; 10 x or y not -1024..1023; 11 label over 64 bytes; 12 mode number over 2", after the font's and the panel's.
--- The lent slices are given by their lengths
+unfoldable pub callOf : List ℕ → ℕ → ℤ → ℤ → ℕ → List ℕ → Call
+callOf font strip x y mode label = record { font = font; strip = strip; x = x; y = y; mode = mode; label = label }
+
+-- "9 strip over 31; 10 x or y not -1024..1023; 11 label over 64 bytes; 12 mode number over 2"
+unfoldable pub labelNumber : ℕ → ℤ → ℤ → ℕ → ℕ → ℕ
+labelNumber strip x y mode bytes =
+    firstOf ((ltb 31 strip, 9) ∷ (outside x || outside y, 10) ∷ (ltb 64 bytes, 11) ∷ (ltb 2 mode, 12) ∷ [])
+
+-- the font's numbers, then the panel's, then the label's own. The lent slices are given by their lengths
 unfoldable pub callNumber : Shape → List ℕ → Call → ℕ
 callNumber s lent call =
     orElse (fontNumber (call .font))
-    (firstOf
-    ((badPanel s lent, 8)
-    ∷ (ltb 31 (call .strip), 9)
-    ∷ (outside (call .x) || outside (call .y), 10)
-    ∷ (ltb 64 (length (call .label)), 11)
-    ∷ (ltb 2 (call .mode), 12)
-    ∷ []))
+    (orElse (panelNumber s lent) (labelNumber (call .strip) (call .x) (call .y) (call .mode) (length (call .label))))
 
 -- the pen after an accepted call
 unfoldable pub lastPen : List ℕ → ℤ → List ℕ → Pen

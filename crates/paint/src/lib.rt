@@ -15,7 +15,7 @@ ghost use Rattle.words.specs.Effect.{applyTo, effectOf, altered};
 ghost use Rattle.fonts.specs.Face.{dotOf};
 ghost use Rattle.paint.specs.Pen.{penAt, penAfter, penAlong, inStrip, dotAlong, maskFrom, pictureEffect, labelEffect};
 ghost use Rattle.paint.specs.declared.Reply.the-variants.{Done};
-ghost use Rattle.paint.specs.Label.{lastPen, measureOf};
+ghost use Rattle.paint.specs.Label.{callOf, labelNumber, lastPen, callEffect, replyOf, paintAfter, measureOf};
 
 // The size of a panel: words per row, rows, and the columns of a strip.
 pub struct Shape {
@@ -392,4 +392,94 @@ fn paint_label(
         i += 1;
     }
     pen
+}
+
+// What a label call is refused for by its own numbers, after its font and its panel.
+fn label_number(strip: u32, x: i32, y: i32, mode: u32, bytes: usize) -> u32
+    ensures { λ r. ⌜ r ≡ labelNumber strip x y mode bytes ⌝ }
+{
+    if 31 < strip {
+        return 9;
+    }
+    if words::outside(x) {
+        return 10;
+    }
+    if words::outside(y) {
+        return 10;
+    }
+    if 64 < bytes {
+        return 11;
+    }
+    if 2 < mode {
+        return 12;
+    }
+    0
+}
+
+// An accepted label, painted. Hands back the last pen.
+fn paint_accepted(
+    font: &[u16],
+    s: Shape,
+    strip: u32,
+    x: i32,
+    y: i32,
+    mode: u32,
+    label: &[u8],
+    panel: &mut [u16],
+) -> Pen
+    requires { ⌜ (1 ≤ s .rowwords) × ((s .rowwords ≤ 128) × (s .rows ≤ 256)) ⌝ }
+    requires { ⌜ (32 * s .width ≤ 16 * s .rowwords) × (strip ≤ 31) ⌝ }
+    requires { ⌜ (s .rowwords * s .rows ≤ length (now panel)) × (length (now label) ≤ 64) ⌝ }
+    ensures { λ r. ⌜ r ≡ lastPen (now (font .entry)) x (now (label .entry)) ⌝ }
+    ensures small { λ r. ⌜ (r .place ≤ 4259840) × (r .substitutes ≤ 65600) ⌝ }
+    ensures panel { λ r. ⌜ now (panel .exit) ≡ altered 0 (s .rowwords * s .rows) (callEffect s (callOf (now (font .entry)) strip x y mode (now (label .entry)))) (now (panel .entry)) ⌝ }
+{
+    let h = Header::of(font);
+    let pointers = fonts::pointers(font, h);
+    let widths = fonts::widths(font, h);
+    let area = Strip::of(s, strip);
+    let row = words::place_of(y);
+    let kind = Mode::of(mode);
+    let start = Pen::at(x);
+    paint_label(
+        font,
+        h,
+        pointers,
+        widths,
+        s,
+        area,
+        row,
+        kind,
+        start,
+        label,
+        panel,
+    )
+}
+
+// Paints a label into one of the thirty-two strips of a panel.
+pub fn paint(
+    font: &[u16],
+    s: Shape,
+    strip: u32,
+    x: i32,
+    y: i32,
+    mode: u32,
+    label: &[u8],
+    panel: &mut [u16],
+) -> Reply
+    ensures { λ r. ⌜ r ≡ replyOf s (length (now (panel .entry)) ∷ []) (callOf (now (font .entry)) strip x y mode (now (label .entry))) ⌝ }
+    ensures panel { λ r. ⌜ now (panel .exit) ≡ paintAfter s (callOf (now (font .entry)) strip x y mode (now (label .entry))) (now (panel .entry)) ⌝ }
+{
+    let refusal = fonts::number(font);
+    if refusal != 0 {
+        return Reply::Refused(refusal);
+    }
+    if bad_panel(s, panel.len()) {
+        return Reply::Refused(8);
+    }
+    let own = label_number(strip, x, y, mode, label.len());
+    if own != 0 {
+        return Reply::Refused(own);
+    }
+    done(paint_accepted(font, s, strip, x, y, mode, label, panel))
 }

@@ -1,12 +1,16 @@
 -- `paint::last_pen` meets its contract: the header and the tables are those of the font.
 -- Assumes nothing.
+use Prim.Native.Nat.{ℕ}
+use mathlib.Core.Path.{ap, ap₂, _∙_}
 use native.Mathlib.Omega.{arith}
-use mathlib.Core.Path.{ap, _∙_}
+use denote.Ref.{now}
 use mir.Facts.{toZ-ofZ}
 use borrow.Author.Needs.{needs}
-use Rattle.fonts.specs.Face.{faceFrom, faceOf}
+use Rattle.paint.specs.declared.Pen.{Pen}
+use Rattle.fonts.specs.declared.Glyph.{Glyph}
 use Rattle.paint.specs.Label.{lastPen}
-use Rattle.paint.specs.Pen.{penAt}
+use Rattle.paint.specs.Pen.{penAt, penAlong}
+use Rattle.paint.proofs.Labels.{glyph-is}
 use Rattle.paint.proofs.last_pen.Statement.{statement}
 use Rattle.paint.proofs.last_pen.Tie as tie
 
@@ -26,10 +30,16 @@ pen-along-requires : tie.Need-pen-along-requires
 pen-along-requires c κs = ((omega arith, omega arith), omega arith)
 
 returns : tie.Need-returns
-unfolding lastPen faceOf faceFrom
+unfolding lastPen
 returns c =
-    let start = c .before .at .ensures .0 ∙ ap penAt (toZ-ofZ (c .before .before .before .before .before .before .before .fits .x)) in
-    (cc, c .pen-along .ensures .1)
+    let a = c .before .before .before .before .before .before .before in
+    let start = c .before .at .ensures .0 ∙ ap penAt (toZ-ofZ (a .fits .x)) in (
+      c .pen-along .ensures .0
+          ∙ ap₂ (λ (g : ℕ → Glyph) (p : Pen). penAlong g p (now (a .args .label)))
+          (glyph-is _ _ _ (now (a .args .font)) (c .before .before .before .before .of .ensures) (c .before .before .before .pointers .ensures) (c .before .before .widths .ensures))
+          start,
+      c .pen-along .ensures .1,
+    )
 
 pub last-pen-spec : {M : Type 1} → statement M
 last-pen-spec =

@@ -1,0 +1,71 @@
+-- What a call that passed its tests promises: the inverse of the chains of tests.
+use Prim.Native.Nat.{ℕ, _+_, _*_, _<_, _≤_}
+use mathlib.Core.Path.{_≡_, refl, sym, ap, _∙_}
+use mathlib.Core.Bool.{Bool, true, false, cond, true≢false, _||_}
+use mathlib.Core.List.{[], _∷_}
+use native.Mathlib.Nat.{mul-le-mul-right, suc-mul}
+use native.Mathlib.Numerals.{add-one}
+use native.Mathlib.Omega.{arith}
+use lib.Dec.{ltb}
+use lib.IntN.{ℤ}
+use borrow.Author.Tests.{ltb-false}
+use Rattle.words.specs.Refusal.{firstOf, notWithin}
+use Rattle.words.specs.Place.{outside}
+use Rattle.paint.specs.declared.Shape.{Shape}
+use Rattle.paint.specs.Panel.{badSides, badShape, someShort, badPanel}
+use Rattle.paint.specs.Label.{labelNumber}
+
+neither : (s t : Bool) → (s || t) ≡ false → (s ≡ false) × (t ≡ false)
+neither true t e = absurd (true≢false e)
+neither false t e = (refl, e)
+
+-- no number was given, so the test did not hold
+passed : (t : Bool) (number rest : ℕ) → 0 < number → cond t number rest ≡ 0 → (t ≡ false) × (rest ≡ 0)
+passed true number rest h e = absurd (omega arith)
+passed false number rest h e = (refl, e)
+
+within : (least most n : ℕ) → notWithin least most n ≡ false → (least ≤ n) × (n ≤ most)
+unfolding notWithin
+within least most n e =
+    let both = neither (ltb n least) (ltb most n) e in
+    (ltb-false n least (both .0), ltb-false most n (both .1))
+
+-- what a shape and a slice that 8 does not refuse promise
+pub record GoodPanel (s : Shape) (room : ℕ) : Type 0 where
+  pub some : 1 ≤ s .rowwords
+  pub narrow : s .rowwords ≤ 128
+  pub low : s .rows ≤ 256
+  pub strips : 32 * s .width ≤ 16 * s .rowwords
+  pub long : s .rowwords * s .rows ≤ room
+
+pub good-panel : (s : Shape) (room : ℕ) → badPanel s (room ∷ []) ≡ false → GoodPanel s room
+unfolding badPanel badShape badSides someShort
+good-panel s room e =
+    let shape-slice = neither (badShape s) (someShort s (room ∷ [])) e in
+    let sides-strips = neither (badSides s) (ltb (16 * s .rowwords) (32 * s .width)) (shape-slice .0) in
+    let rows-width = neither (notWithin 1 128 (s .rowwords) || notWithin 1 256 (s .rows)) (notWithin 1 64 (s .width)) (sides-strips .0) in
+    let words-rows = neither (notWithin 1 128 (s .rowwords)) (notWithin 1 256 (s .rows)) (rows-width .0) in
+    let across = within 1 128 (s .rowwords) (words-rows .0) in
+    record {
+      some = across .0;
+      narrow = across .1;
+      low = within 1 256 (s .rows) (words-rows .1) .1;
+      strips = ltb-false (16 * s .rowwords) (32 * s .width) (sides-strips .1);
+      long = ltb-false room (s .rowwords * s .rows) (neither (ltb room (s .rowwords * s .rows)) false (shape-slice .1) .0);
+    }
+
+-- a label that its own numbers do not refuse: its strip is one of thirty-two, and it is short
+pub good-label : (strip : ℕ) (x y : ℤ) (mode bytes : ℕ) → labelNumber strip x y mode bytes ≡ 0 → (strip ≤ 31) × (bytes ≤ 64)
+unfolding labelNumber firstOf
+good-label strip x y mode bytes e =
+    let nine = passed (ltb 31 strip) 9 _ (omega arith) e in
+    let ten = passed (outside x || outside y) 10 _ (omega arith) (nine .1) in
+    let eleven = passed (ltb 64 bytes) 11 _ (omega arith) (ten .1) in
+    (ltb-false 31 strip (nine .0), ltb-false 64 bytes (eleven .0))
+
+-- thirty-two strips fit the panel
+pub strip-fits : (k width rowwords : ℕ) → k ≤ 31 → 32 * width ≤ 16 * rowwords → k * width + width ≤ 16 * rowwords
+strip-fits k width rowwords h fit =
+    let upto : (k + 1) * width ≤ 32 * width = mul-le-mul-right width (omega arith) in
+    let next : (k + 1) * width ≡ k * width + width = ap (λ (n : ℕ). n * width) (add-one k) ∙ suc-mul k width in
+    omega arith
