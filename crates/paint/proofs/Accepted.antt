@@ -54,7 +54,15 @@ good-panel s room e =
       long = ltb-false room (s .rowwords * s .rows) (neither (ltb room (s .rowwords * s .rows)) false (shape-slice .1) .0);
     }
 
--- a label that its own numbers do not refuse: its strip is one of thirty-two, and it is short
+-- a label that its own numbers do not refuse: its places are within, it is short, and its strip is one of thirty-two
+pub good-places : (strip : ℕ) (x y : ℤ) (mode bytes : ℕ) → labelNumber strip x y mode bytes ≡ 0 → (outside x ≡ false) × (bytes ≤ 64)
+unfolding labelNumber firstOf
+good-places strip x y mode bytes e =
+    let nine = passed (ltb 31 strip) 9 _ (omega arith) e in
+    let ten = passed (outside x || outside y) 10 _ (omega arith) (nine .1) in
+    let eleven = passed (ltb 64 bytes) 11 _ (omega arith) (ten .1) in
+    (neither (outside x) (outside y) (ten .0) .0, ltb-false 64 bytes (eleven .0))
+
 pub good-label : (strip : ℕ) (x y : ℤ) (mode bytes : ℕ) → labelNumber strip x y mode bytes ≡ 0 → (strip ≤ 31) × (bytes ≤ 64)
 unfolding labelNumber firstOf
 good-label strip x y mode bytes e =

@@ -5,3 +5,4 @@ pub mod Marks
 pub mod Rows
 pub mod Labels
 pub mod Accepted
+pub mod Demand

@@ -136,3 +136,17 @@ both-fail false t e = refl
 pub strip-left-of : (strip : Strip) (column : ℕ) → strip .upto ≤ column → inStrip strip column ≡ 0
 unfolding inStrip
 strip-left-of strip column h = both-fail (leb (strip .from) column) (ltb column (strip .upto)) (le-ltb column (strip .upto) h)
+
+pub mark-bit : (dot : Glyph → ℕ → ℕ → ℕ) (strip : Strip) (y : ℕ) (pen : Pen) (g : Glyph) (row column : ℕ) → ((i j : ℕ) → dot g i j < 2) → mark dot strip y pen g row column < 2
+unfolding mark
+mark-bit dot strip y pen g row column bits =
+    mark-product dot strip y pen g row column (leb y (row + 2048 + g .ascent)) _ _
+    (along-bit (dot g (row + 2048 + g .ascent - y)) (bits (row + 2048 + g .ascent - y)) (pen .place + g .place) 0 (column + 4096 - strip .from))
+    (in-strip-bit strip column)
+
+pub mark-beside : (dot : Glyph → ℕ → ℕ → ℕ) (strip : Strip) (y : ℕ) (pen : Pen) (g : Glyph) (row column : ℕ) → inStrip strip column ≡ 0 → mark dot strip y pen g row column ≡ 0
+unfolding mark
+mark-beside dot strip y pen g row column out =
+    choice-zero dot strip y pen g row column (leb y (row + 2048 + g .ascent)) _
+    (ap (λ (b : ℕ). dotAlong (dot g (row + 2048 + g .ascent - y)) (pen .place + g .place) (column + 4096 - strip .from) * b) out
+    ∙ mul-zero (dotAlong (dot g (row + 2048 + g .ascent - y)) (pen .place + g .place) (column + 4096 - strip .from)))

@@ -1,3 +1,4 @@
 pub mod Panel
 pub mod Pen
 pub mod Label
+pub mod Rule

@@ -86,7 +86,7 @@ altered-idle k (suc n) e p h idle =
     ∙ set-getD p (k + n) 0
 
 -- words stay words
-apply-lt : (e : Effect) (d : ℕ) → OfWords e → d < 65536 → applyTo e d < 65536
+pub apply-lt : (e : Effect) (d : ℕ) → OfWords e → d < 65536 → applyTo e d < 65536
 apply-lt e d h hd = xor-lt 16 (bitAnd d (e .keep)) (e .flip) (and-lt 16 d (e .keep) hd (h .0)) (h .1)
 
 set-words : (p : List ℕ) (i d : ℕ) → AllWords p → d < 65536 → AllWords (set p i d)
