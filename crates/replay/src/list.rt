@@ -1,0 +1,220 @@
+// Reading a list: the field that is being read, byte by byte, and the line that its fields make.
+use crate::names;
+
+ghost use Prim.Native.Nat.{_≤_, _<_};
+
+pub const VALUES: usize = 530_000;
+
+// The field so far. What it is, a name, a number or a value, is known only where it ends, so it is read as each.
+pub struct Field {
+    pub name: u64,
+    pub digits: u64,
+    pub negative: bool,
+    pub word: u16,
+    // What stands behind its `*`, where there is one.
+    pub repeated: bool,
+    pub count: u64,
+}
+
+// A field as far as the input has it, and where that stops: at the byte behind the field or at the input's end.
+pub struct Piece {
+    pub field: Field,
+    pub stop: usize,
+}
+
+// The line so far. Its values stand in an array of their own, as so many words.
+pub struct Line {
+    pub command: u64,
+    pub fields: usize,
+    // The last name behind the command: the register that is shown.
+    pub name: u64,
+    // The numbers behind the command, each counted from 4294967296 below zero.
+    pub numbers: [u64; 8],
+    pub values: usize,
+}
+
+// A decimal number with one more digit. One that is past all that a list may have stays as it is, as does one before another character.
+fn tenfold(n: u64, b: u8) -> u64 {
+    if b < 48 {
+        return n;
+    }
+    if 57 < b {
+        return n;
+    }
+    if 99_999_999_999 < n {
+        return n;
+    }
+    n * 10 + (b - 48) as u64
+}
+
+fn nibble(b: u8) -> u16
+    ensures { λ r. ⌜ r < 16 ⌝ }
+{
+    if b < 48 {
+        return 0;
+    }
+    if b < 58 {
+        return (b - 48) as u16;
+    }
+    if b < 65 {
+        return 0;
+    }
+    if 70 < b {
+        return 0;
+    }
+    (b - 55) as u16
+}
+
+fn hexadecimal(word: u16, b: u8) -> u16 {
+    word % 4096 * 16 + nibble(b)
+}
+
+impl Field {
+    pub fn empty() -> Field {
+        Field {
+            name: 0,
+            digits: 0,
+            negative: false,
+            word: 0,
+            repeated: false,
+            count: 0,
+        }
+    }
+
+    fn with(mut self, b: u8) -> Field {
+        if self.repeated {
+            self.count = tenfold(self.count, b);
+            return self;
+        }
+        if b == b'*' {
+            self.repeated = true;
+            return self;
+        }
+        if b == b'-' {
+            self.negative = true;
+            return self;
+        }
+        self.name = names::extended(self.name, b);
+        self.digits = tenfold(self.digits, b);
+        self.word = hexadecimal(self.word, b);
+        self
+    }
+
+    // How often its value stands there.
+    fn times(self) -> u64 {
+        if self.repeated {
+            return self.count;
+        }
+        1
+    }
+
+    // Its number, counted from 4294967296 below zero.
+    fn number(self) -> u64 {
+        if 4_294_967_295 < self.digits {
+            return 4_294_967_296;
+        }
+        if self.negative {
+            return 4_294_967_296 - self.digits;
+        }
+        4_294_967_296 + self.digits
+    }
+}
+
+// The rest of a field, from a place of the input on.
+pub fn scan(input: &[u8], from: usize, begun: Field) -> Piece
+    ensures { λ r. ⌜ from ≤ r .stop ⌝ }
+{
+    let mut field = begun;
+    let mut i = from;
+    while i < input.len() {
+        let b = input[i];
+        if b <= b' ' {
+            return Piece { field, stop: i };
+        }
+        field = field.with(b);
+        i += 1;
+    }
+    Piece { field, stop: i }
+}
+
+// How many fields stand between a command and its values. Where it has no values none of its fields is one.
+fn numbers_before(command: u64) -> usize {
+    match command {
+        names::FONT | names::CU | names::PANEL | names::OUT | names::FILE => 0,
+        names::KEEP1 | names::FLIP1 | names::KEEP2 | names::FLIP2 => 0,
+        _ => 1000,
+    }
+}
+
+pub fn least(a: usize, b: usize) -> usize
+    ensures { λ r. ⌜ (r ≤ a) × (r ≤ b) ⌝ }
+{
+    if a < b {
+        return a;
+    }
+    b
+}
+
+// Puts a word into the list so often, from a place on, and answers where that ends. What the list has no room for is left out.
+fn fill(list: &mut [u16], from: usize, times: u64, word: u16) -> usize {
+    if list.len() <= from {
+        return from;
+    }
+    let end = from + least(times as usize, list.len() - from);
+    let mut i = from;
+    while i < end {
+        list[i] = word;
+        i += 1;
+    }
+    end
+}
+
+impl Line {
+    pub fn empty() -> Line {
+        Line::of(0)
+    }
+
+    fn of(command: u64) -> Line {
+        Line {
+            command,
+            fields: 0,
+            name: 0,
+            numbers: [4_294_967_296; 8],
+            values: 0,
+        }
+    }
+
+    // The line with one more field.
+    pub fn with(mut self, field: Field, values: &mut [u16; VALUES]) -> Line {
+        let k = self.fields;
+        self.fields = least(k, 999) + 1;
+        if k == 0 {
+            self.command = field.name;
+            return self;
+        }
+        if numbers_before(self.command) < k {
+            self.values = fill(values, self.values, field.times(), field.word);
+            return self;
+        }
+        self.name = field.name;
+        if k <= 8 {
+            self.numbers[k - 1] = field.number();
+        }
+        self
+    }
+
+    // Number k behind the command, from 0, one that has no sign.
+    pub fn number(self, k: usize) -> u32 {
+        if 7 < k {
+            return 0;
+        }
+        let n = self.numbers[k];
+        if n < 4_294_967_296 {
+            return 0;
+        }
+        if 8_589_934_591 < n {
+            return 0;
+        }
+        (n - 4_294_967_296) as u32
+    }
+}
