@@ -1,8 +1,10 @@
 // Reading a list: the field that is being read, byte by byte, and the line that its fields make.
 use crate::names;
+use libc::STDIN_FILENO;
 
 ghost use Prim.Native.Nat.{_≤_, _<_};
 
+pub const INPUT: usize = 65_536;
 pub const VALUES: usize = 530_000;
 
 // The field so far. What it is, a name, a number or a value, is known only where it ends, so it is read as each.
@@ -16,10 +18,21 @@ pub struct Field {
     pub count: u64,
 }
 
-// A field as far as the input has it, and where that stops: at the byte behind the field or at the input's end.
+// A field as far as a buffer has it, the byte that ends it, and the place behind that byte; place 0 where the buffer ends before.
 pub struct Piece {
     pub field: Field,
-    pub stop: usize,
+    pub end: u8,
+    pub next: usize,
+}
+
+// A whole field, and the byte that ends it. What has been read behind it stands in the buffer, from a place up to another. At the end of
+// the list there is no field.
+pub struct Ended {
+    pub field: Field,
+    pub end: u8,
+    pub over: bool,
+    pub from: usize,
+    pub upto: usize,
 }
 
 // The line so far. Its values stand in an array of their own, as so many words.
@@ -31,6 +44,14 @@ pub struct Line {
     // The numbers behind the command, each counted from 4294967296 below zero.
     pub numbers: [u64; 8],
     pub values: usize,
+}
+
+// A whole line, and what has been read behind it. At the end of the list there is no line.
+pub struct Read {
+    pub line: Line,
+    pub over: bool,
+    pub from: usize,
+    pub upto: usize,
 }
 
 // A decimal number with one more digit. One that is past all that a list may have stays as it is, as does one before another character.
@@ -70,7 +91,7 @@ fn hexadecimal(word: u16, b: u8) -> u16 {
 }
 
 impl Field {
-    pub fn empty() -> Field {
+    fn empty() -> Field {
         Field {
             name: 0,
             digits: 0,
@@ -120,21 +141,62 @@ impl Field {
     }
 }
 
-// The rest of a field, from a place of the input on.
-pub fn scan(input: &[u8], from: usize, begun: Field) -> Piece
-    ensures { λ r. ⌜ from ≤ r .stop ⌝ }
-{
+// The rest of a field, in a buffer from a place up to another.
+fn scan(buffer: &[u8], from: usize, upto: usize, begun: Field) -> Piece {
+    let last = least(upto, buffer.len());
     let mut field = begun;
     let mut i = from;
-    while i < input.len() {
-        let b = input[i];
+    while i < last {
+        let b = buffer[i];
         if b <= b' ' {
-            return Piece { field, stop: i };
+            return Piece {
+                field,
+                end: b,
+                next: i + 1,
+            };
         }
         field = field.with(b);
         i += 1;
     }
-    Piece { field, stop: i }
+    Piece {
+        field,
+        end: 0,
+        next: 0,
+    }
+}
+
+// Reads more of the list, and answers how many bytes; 0 at its end.
+fn read_some(buffer: &mut [u8; INPUT]) -> usize {
+    let got = libc::read(STDIN_FILENO, buffer);
+    io::count(got, buffer)
+}
+
+// The next field. A proved loop has to end, and nothing says that a list does: the turns are counted down from a number that no run uses up.
+fn next_field(buffer: &mut [u8; INPUT], begin: usize, end: usize) -> Ended {
+    let mut field = Field::empty();
+    let mut from = begin;
+    let mut upto = end;
+    let mut turns = u64::MAX;
+    while 0 < turns {
+        turns -= 1;
+        let piece = scan(buffer, from, upto, field);
+        field = piece.field;
+        if 0 < piece.next {
+            return Ended {
+                field,
+                end: piece.end,
+                over: false,
+                from: piece.next,
+                upto,
+            };
+        }
+        from = 0;
+        upto = read_some(buffer);
+        if upto == 0 {
+            return Ended::over();
+        }
+    }
+    Ended::over()
 }
 
 // How many fields stand between a command and its values. Where it has no values none of its fields is one.
@@ -169,14 +231,22 @@ fn fill(list: &mut [u16], from: usize, times: u64, word: u16) -> usize {
     end
 }
 
-impl Line {
-    pub fn empty() -> Line {
-        Line::of(0)
+impl Ended {
+    fn over() -> Ended {
+        Ended {
+            field: Field::empty(),
+            end: 0,
+            over: true,
+            from: 0,
+            upto: 0,
+        }
     }
+}
 
-    fn of(command: u64) -> Line {
+impl Line {
+    fn empty() -> Line {
         Line {
-            command,
+            command: 0,
             fields: 0,
             name: 0,
             numbers: [4_294_967_296; 8],
@@ -185,7 +255,7 @@ impl Line {
     }
 
     // The line with one more field.
-    pub fn with(mut self, field: Field, values: &mut [u16; VALUES]) -> Line {
+    fn with(mut self, field: Field, values: &mut [u16; VALUES]) -> Line {
         let k = self.fields;
         self.fields = least(k, 999) + 1;
         if k == 0 {
@@ -217,4 +287,53 @@ impl Line {
         }
         (n - 4_294_967_296) as u32
     }
+}
+
+impl Read {
+    // Before the first line.
+    pub fn nothing() -> Read {
+        Read {
+            line: Line::empty(),
+            over: false,
+            from: 0,
+            upto: 0,
+        }
+    }
+
+    fn over() -> Read {
+        Read {
+            line: Line::empty(),
+            over: true,
+            from: 0,
+            upto: 0,
+        }
+    }
+}
+
+// The line behind the one read before; turns are counted as for a field.
+pub fn next_line(before: Read, buffer: &mut [u8; INPUT], values: &mut [u16; VALUES]) -> Read {
+    let mut line = Line::empty();
+    let mut from = before.from;
+    let mut upto = before.upto;
+    let mut turns = u64::MAX;
+    while 0 < turns {
+        turns -= 1;
+        let ended = next_field(buffer, from, upto);
+        if ended.over {
+            return Read::over();
+        }
+        let field = ended.field;
+        line = line.with(field, values);
+        from = ended.from;
+        upto = ended.upto;
+        if ended.end == b'\n' {
+            return Read {
+                line,
+                over: false,
+                from,
+                upto,
+            };
+        }
+    }
+    Read::over()
 }

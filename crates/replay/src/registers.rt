@@ -1,57 +1,100 @@
-// The registers: arrays with room for the most that each may hold, and how much each holds. A command's values become a register's words,
-// and a register is shown.
+// The registers. Those that no call is lent together share an array, each from a place of its own and with room for the most that it may
+// hold: `font` and `cu` stand in `files`, `panel` and `out` in `lent`, `keep1` and `keep2` in `keeps`, `flip1` and `flip2` in `flips`.
+// The bytes of `file` have an array to themselves.
 use crate::list::{Line, VALUES, least};
 use crate::names;
 use crate::text::{TEXT, put, put_list, put_name};
 
-pub const FONT: usize = 70_000;
-pub const CU: usize = 530_000;
-pub const PANEL: usize = 40_000;
-pub const SHEET: usize = 40_000;
-pub const OUT: usize = 70_000;
-pub const FILE: usize = 140_000;
+pub const FILES: usize = 600_000;
+pub const LENT: usize = 110_000;
+pub const SHEETS: usize = 80_000;
+pub const BYTES: usize = 140_000;
 
-// How many words each register holds; of the file, bytes.
-pub struct Held {
-    pub font: usize,
-    pub cu: usize,
-    pub panel: usize,
-    pub keep1: usize,
-    pub flip1: usize,
-    pub keep2: usize,
-    pub flip2: usize,
-    pub out: usize,
-    pub file: usize,
+pub enum Array {
+    Files,
+    Lent,
+    Keeps,
+    Flips,
+    Bytes,
+    Nowhere,
 }
 
-impl Held {
-    pub fn nothing() -> Held {
-        Held {
-            font: 0,
-            cu: 0,
-            panel: 0,
-            keep1: 0,
-            flip1: 0,
-            keep2: 0,
-            flip2: 0,
-            out: 0,
-            file: 0,
+// Where a register stands, how much it has room for, and which of the counts is its own.
+pub struct Register {
+    pub array: Array,
+    pub from: usize,
+    pub room: usize,
+    pub number: usize,
+}
+
+// How many words each register holds; of `file`, bytes.
+pub struct Held {
+    pub counts: [usize; 9],
+}
+
+impl Register {
+    fn new(array: Array, from: usize, room: usize, number: usize) -> Register {
+        Register {
+            array,
+            from,
+            room,
+            number,
+        }
+    }
+
+    fn named(name: u64) -> Register {
+        match name {
+            names::FONT => Register::new(Array::Files, 0, 70_000, 0),
+            names::CU => Register::new(Array::Files, 70_000, 530_000, 1),
+            names::PANEL => Register::new(Array::Lent, 0, 40_000, 2),
+            names::OUT => Register::new(Array::Lent, 40_000, 70_000, 3),
+            names::KEEP1 => Register::new(Array::Keeps, 0, 40_000, 4),
+            names::KEEP2 => Register::new(Array::Keeps, 40_000, 40_000, 5),
+            names::FLIP1 => Register::new(Array::Flips, 0, 40_000, 6),
+            names::FLIP2 => Register::new(Array::Flips, 40_000, 40_000, 7),
+            names::FILE => Register::new(Array::Bytes, 0, BYTES, 8),
+            _ => Register::new(Array::Nowhere, 0, 0, 9),
         }
     }
 }
 
-// Copies the first `count` words, as far as both lists go, and answers how many.
-fn copy(from: &[u16], count: usize, to: &mut [u16]) -> usize {
-    let end = least(count, least(from.len(), to.len()));
+impl Held {
+    pub fn nothing() -> Held {
+        Held { counts: [0; 9] }
+    }
+
+    fn of(self, register: Register) -> usize {
+        let number = register.number;
+        if number < 9 {
+            return self.counts[number];
+        }
+        0
+    }
+
+    fn with(mut self, register: Register, count: usize) -> Held {
+        let number = register.number;
+        if number < 9 {
+            self.counts[number] = count;
+        }
+        self
+    }
+}
+
+// Copies the first `count` words to a place of another list, as far as there is room, and answers how many.
+fn copy(from: &[u16], count: usize, to: &mut [u16], place: usize, room: usize) -> usize {
+    if to.len() < place {
+        return 0;
+    }
+    let end = least(least(count, from.len()), least(room, to.len() - place));
     let mut i = 0;
     while i < end {
-        to[i] = from[i];
+        to[place + i] = from[i];
         i += 1;
     }
     end
 }
 
-// The same, of words that stand for bytes.
+// Copies the first `count` words, which stand for bytes, and answers how many.
 fn narrow(from: &[u16], count: usize, to: &mut [u8]) -> usize {
     let end = least(count, least(from.len(), to.len()));
     let mut i = 0;
@@ -66,7 +109,7 @@ fn low(word: u16) -> u8 {
     (word % 256) as u8
 }
 
-// The same, of bytes that become words.
+// Copies the first `count` bytes, which become words, and answers how many.
 fn widen(from: &[u8], count: usize, to: &mut [u16]) -> usize {
     let end = least(count, least(from.len(), to.len()));
     let mut i = 0;
@@ -81,149 +124,68 @@ fn wide(byte: u8) -> u16 {
     byte as u16
 }
 
-// The registers `font`, `cu`, `panel`, `out` and `file` after a line.
-pub fn set_files(
+// What the registers hold after a line. Where it sets one, its values go there.
+pub fn set(
     line: Line,
     values: &[u16; VALUES],
-    mut held: Held,
-    font: &mut [u16; FONT],
-    cu: &mut [u16; CU],
-    panel: &mut [u16; PANEL],
-    out: &mut [u16; OUT],
-    file: &mut [u8; FILE],
+    held: Held,
+    files: &mut [u16; FILES],
+    lent: &mut [u16; LENT],
+    keeps: &mut [u16; SHEETS],
+    flips: &mut [u16; SHEETS],
+    bytes: &mut [u8; BYTES],
 ) -> Held {
-    if line.command == names::FONT {
-        held.font = copy(values, line.values, font);
-        return held;
-    }
-    if line.command == names::CU {
-        held.cu = copy(values, line.values, cu);
-        return held;
-    }
-    if line.command == names::PANEL {
-        held.panel = copy(values, line.values, panel);
-        return held;
-    }
-    if line.command == names::OUT {
-        held.out = copy(values, line.values, out);
-        return held;
-    }
-    if line.command == names::FILE {
-        held.file = narrow(values, line.values, file);
-        return held;
-    }
-    held
+    let r = Register::named(line.command);
+    let array = r.array;
+    let count = match array {
+        Array::Files => copy(values, line.values, files, r.from, r.room),
+        Array::Lent => copy(values, line.values, lent, r.from, r.room),
+        Array::Keeps => copy(values, line.values, keeps, r.from, r.room),
+        Array::Flips => copy(values, line.values, flips, r.from, r.room),
+        Array::Bytes => narrow(values, line.values, bytes),
+        Array::Nowhere => 0,
+    };
+    held.with(r, count)
 }
 
-// The registers of the two sheets after a line.
-pub fn set_sheets(
+// Shows the register that a line asks for. The bytes of `file` are spread over words, which stand where a line's values would.
+pub fn show(
     line: Line,
-    values: &[u16; VALUES],
-    mut held: Held,
-    keep1: &mut [u16; SHEET],
-    flip1: &mut [u16; SHEET],
-    keep2: &mut [u16; SHEET],
-    flip2: &mut [u16; SHEET],
-) -> Held {
-    if line.command == names::KEEP1 {
-        held.keep1 = copy(values, line.values, keep1);
-        return held;
+    values: &mut [u16; VALUES],
+    held: Held,
+    files: &[u16; FILES],
+    lent: &[u16; LENT],
+    keeps: &[u16; SHEETS],
+    flips: &[u16; SHEETS],
+    bytes: &[u8; BYTES],
+    text: &mut [u8; TEXT],
+    at: usize,
+) -> usize {
+    if line.command != names::SHOW {
+        return at;
     }
-    if line.command == names::FLIP1 {
-        held.flip1 = copy(values, line.values, flip1);
-        return held;
-    }
-    if line.command == names::KEEP2 {
-        held.keep2 = copy(values, line.values, keep2);
-        return held;
-    }
-    if line.command == names::FLIP2 {
-        held.flip2 = copy(values, line.values, flip2);
-        return held;
-    }
-    held
-}
-
-// The line that shows the first `count` words of a register.
-fn put_register(text: &mut [u8; TEXT], at: usize, name: u64, list: &[u16], count: usize, width: u32) -> usize {
-    let at = put_name(text, at, name);
-    let at = put_list(text, at, words::part(list, 0, count), width);
+    let r = Register::named(line.name);
+    let array = r.array;
+    let count = held.of(r);
+    let at = put_name(text, at, line.name);
+    let at = match array {
+        Array::Files => put_list(text, at, words::part(files, r.from, count), 4),
+        Array::Lent => put_list(text, at, words::part(lent, r.from, count), 4),
+        Array::Keeps => put_list(text, at, words::part(keeps, r.from, count), 4),
+        Array::Flips => put_list(text, at, words::part(flips, r.from, count), 4),
+        Array::Bytes => put_bytes(text, at, bytes, count, values),
+        Array::Nowhere => at,
+    };
     put(text, at, b'\n')
 }
 
-// Shows `font`, `cu`, `panel` or `out`, where the line asks for it.
-pub fn show_words(
-    line: Line,
-    held: Held,
-    font: &[u16; FONT],
-    cu: &[u16; CU],
-    panel: &[u16; PANEL],
-    out: &[u16; OUT],
-    text: &mut [u8; TEXT],
-    at: usize,
-) -> usize {
-    if line.command != names::SHOW {
-        return at;
-    }
-    if line.name == names::FONT {
-        return put_register(text, at, line.name, font, held.font, 4);
-    }
-    if line.name == names::CU {
-        return put_register(text, at, line.name, cu, held.cu, 4);
-    }
-    if line.name == names::PANEL {
-        return put_register(text, at, line.name, panel, held.panel, 4);
-    }
-    if line.name == names::OUT {
-        return put_register(text, at, line.name, out, held.out, 4);
-    }
-    at
+fn put_bytes(text: &mut [u8; TEXT], at: usize, bytes: &[u8], count: usize, values: &mut [u16; VALUES]) -> usize {
+    let spread = widen(bytes, count, values);
+    put_list(text, at, words::part(values, 0, spread), 2)
 }
 
-// Shows a register of a sheet, where the line asks for it.
-pub fn show_sheets(
-    line: Line,
-    held: Held,
-    keep1: &[u16; SHEET],
-    flip1: &[u16; SHEET],
-    keep2: &[u16; SHEET],
-    flip2: &[u16; SHEET],
-    text: &mut [u8; TEXT],
-    at: usize,
-) -> usize {
-    if line.command != names::SHOW {
-        return at;
-    }
-    if line.name == names::KEEP1 {
-        return put_register(text, at, line.name, keep1, held.keep1, 4);
-    }
-    if line.name == names::FLIP1 {
-        return put_register(text, at, line.name, flip1, held.flip1, 4);
-    }
-    if line.name == names::KEEP2 {
-        return put_register(text, at, line.name, keep2, held.keep2, 4);
-    }
-    if line.name == names::FLIP2 {
-        return put_register(text, at, line.name, flip2, held.flip2, 4);
-    }
-    at
-}
-
-// Shows the bytes of `file`, where the line asks for it. They are spread over words, which stand where a line's values would.
-pub fn show_file(
-    line: Line,
-    held: Held,
-    file: &[u8; FILE],
-    values: &mut [u16; VALUES],
-    text: &mut [u8; TEXT],
-    at: usize,
-) -> usize {
-    if line.command != names::SHOW {
-        return at;
-    }
-    if line.name != names::FILE {
-        return at;
-    }
-    let count = widen(file, held.file, values);
-    put_register(text, at, line.name, values, count, 2)
+// The words of the font.
+pub fn font(files: &[u16; FILES], held: Held) -> &[u16] {
+    let r = Register::named(names::FONT);
+    words::part(files, r.from, held.of(r))
 }

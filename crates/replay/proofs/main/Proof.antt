@@ -1,24 +1,20 @@
--- `replay::main` is safe and ends: the turns are counted down.
+-- `replay::main` is safe and ends: its turns are counted down.
 -- Assumes nothing.
 use borrow.Author.Needs.{needs}
-use native.Mathlib.Omega.{arith}
 use Rattle.replay.proofs.main.Statement.{statement}
 use Rattle.replay.proofs.main.Tie as tie
 
 abbrev Inv-loop : tie.InvT-loop
-Inv-loop values₀ font₀ cu₀ panel₀ keep1₀ flip1₀ keep2₀ flip2₀ out₀ file₀ text₀ input₀ state₀ turns₀ values font cu panel keep1 flip1 keep2 flip2 out file text input state turns = Unit {0}
+Inv-loop buffer₀ values₀ files₀ lent₀ keeps₀ flips₀ bytes₀ text₀ read₀ state₀ turns₀ buffer values files lent keeps flips bytes text read state turns = Unit {0}
 
 abbrev μ-loop : tie.MeasureT-loop
-μ-loop values₀ font₀ cu₀ panel₀ keep1₀ flip1₀ keep2₀ flip2₀ out₀ file₀ text₀ input₀ state₀ turns₀ values font cu panel keep1 flip1 keep2 flip2 out file text input state turns = turns
-
-empty-requires : tie.Need-empty-requires Inv-loop μ-loop
-empty-requires c κs = search needs
-
-empty-requires-2 : tie.Need-empty-requires-2 Inv-loop μ-loop
-empty-requires-2 c κs = search needs
+μ-loop buffer₀ values₀ files₀ lent₀ keeps₀ flips₀ bytes₀ text₀ read₀ state₀ turns₀ buffer values files lent keeps flips bytes text read state turns = turns
 
 nothing-requires : tie.Need-nothing-requires Inv-loop μ-loop
 nothing-requires c κs = search needs
+
+nothing-requires-2 : tie.Need-nothing-requires-2 Inv-loop μ-loop
+nothing-requires-2 c κs = search needs
 
 loop-holds : tie.Need-loop-holds Inv-loop μ-loop
 loop-holds c = search needs
@@ -26,8 +22,8 @@ loop-holds c = search needs
 sub-turns : tie.Need-sub-turns Inv-loop μ-loop
 sub-turns c = search needs
 
-read-some-requires : tie.Need-read-some-requires Inv-loop μ-loop
-read-some-requires c κs = search needs
+next-line-requires : tie.Need-next-line-requires Inv-loop μ-loop
+next-line-requires c κs = search needs
 
 flush-requires : tie.Need-flush-requires Inv-loop μ-loop
 flush-requires c κs = search needs
@@ -35,11 +31,11 @@ flush-requires c κs = search needs
 returns : tie.Need-returns Inv-loop μ-loop
 returns c = search needs
 
-feed-requires : tie.Need-feed-requires Inv-loop μ-loop
-feed-requires c κs = search needs
+perform-requires : tie.Need-perform-requires Inv-loop μ-loop
+perform-requires c κs = search needs
 
 loop-less : tie.Need-loop-less Inv-loop μ-loop
-loop-less c = omega (arith, c .before .before .before .before .before .before .before .before .before .before .before .before .before .before .before .before .loop-test)
+loop-less c = search needs
 
 loop-again : tie.Need-loop-again Inv-loop μ-loop
 loop-again c = search needs
@@ -53,15 +49,14 @@ main-spec =
     (tie.spec
     Inv-loop
     μ-loop
-    empty-requires
-    empty-requires-2
     nothing-requires
+    nothing-requires-2
     loop-holds
     sub-turns
-    read-some-requires
+    next-line-requires
     flush-requires
     returns
-    feed-requires
+    perform-requires
     loop-less
     loop-again
     returns-2)

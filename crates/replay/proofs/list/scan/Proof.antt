@@ -1,4 +1,4 @@
--- `replay::list::scan` is safe and ends, and never goes back: the place only grows, up to the input's length.
+-- `replay::list::scan` is safe and ends: the place only grows, and is below the last, which is within the buffer.
 -- Assumes nothing.
 use Prim.Native.Nat.{_≤_, _-_}
 use borrow.Author.Needs.{needs}
@@ -7,16 +7,22 @@ use Rattle.replay.proofs.list.scan.Statement.{statement}
 use Rattle.replay.proofs.list.scan.Tie as tie
 
 abbrev Inv-loop : tie.InvT-loop
-Inv-loop input from field₀ i₀ field i = from ≤ i
+Inv-loop buffer from upto last field₀ i₀ field i = last ≤ length buffer
 
 abbrev μ-loop : tie.MeasureT-loop
-μ-loop input from field₀ i₀ field i = length input - i
+μ-loop buffer from upto last field₀ i₀ field i = last - i
+
+least-requires : tie.Need-least-requires Inv-loop μ-loop
+least-requires c κs = search needs
 
 loop-holds : tie.Need-loop-holds Inv-loop μ-loop
 loop-holds c = search needs
 
 shared-slice-read-b : tie.Need-shared-slice-read-b Inv-loop μ-loop
 shared-slice-read-b c = search needs
+
+add-t13 : tie.Need-add-t13 Inv-loop μ-loop
+add-t13 c = search needs
 
 returns : tie.Need-returns Inv-loop μ-loop
 returns c = search needs
@@ -42,8 +48,10 @@ scan-spec =
     (tie.spec
     Inv-loop
     μ-loop
+    least-requires
     loop-holds
     shared-slice-read-b
+    add-t13
     returns
     with-requires
     add-i
