@@ -1,8 +1,15 @@
 // The calls that read the font: check, glyph, dots, row.
 use crate::list::Line;
 use crate::names;
-use crate::text::{TEXT, put, put_list, put_name, put_negative, put_number, put_value};
-use fonts::{Glyph, Reading};
+use crate::text::TEXT;
+use crate::text::put;
+use crate::text::put_list;
+use crate::text::put_name;
+use crate::text::put_negative;
+use crate::text::put_number;
+use crate::text::put_value;
+use fonts::Glyph;
+use fonts::Reading;
 
 // A picture with nothing in it, which stands for the one of a refused font.
 fn no_glyph() -> Glyph {
@@ -22,7 +29,12 @@ fn no_glyph() -> Glyph {
 fn glyph_of(font: &[u16], code: u32) -> Glyph {
     match fonts::read(font) {
         Reading::Refused(_) => no_glyph(),
-        Reading::Accepted(h) => Glyph::of(h, fonts::pointers(font, h), fonts::widths(font, h), code),
+        Reading::Accepted(h) => Glyph::of(
+            h,
+            fonts::pointers(font, h),
+            fonts::widths(font, h),
+            code,
+        ),
     }
 }
 

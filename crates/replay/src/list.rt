@@ -1,48 +1,48 @@
 // Reading a list: the field that is being read, byte by byte, and the line that its fields make.
 use crate::names;
 use libc::STDIN_FILENO;
-
 ghost use Prim.Native.Nat.{_≤_, _<_};
 
 pub const INPUT: usize = 65_536;
+
 pub const VALUES: usize = 530_000;
 
 // The field so far. What it is, a name, a number or a value, is known only where it ends, so it is read as each.
-pub struct Field {
-    pub name: u64,
-    pub digits: u64,
-    pub negative: bool,
-    pub word: u16,
+struct Field {
+    name: u64,
+    digits: u64,
+    negative: bool,
+    word: u16,
     // What stands behind its `*`, where there is one.
-    pub repeated: bool,
-    pub count: u64,
+    repeated: bool,
+    count: u64,
 }
 
 // A field as far as a buffer has it, the byte that ends it, and the place behind that byte; place 0 where the buffer ends before.
-pub struct Piece {
-    pub field: Field,
-    pub end: u8,
-    pub next: usize,
+struct Piece {
+    field: Field,
+    end: u8,
+    next: usize,
 }
 
 // A whole field, and the byte that ends it. What has been read behind it stands in the buffer, from a place up to another. At the end of
 // the list there is no field.
-pub struct Ended {
-    pub field: Field,
-    pub end: u8,
-    pub over: bool,
-    pub from: usize,
-    pub upto: usize,
+struct Ended {
+    field: Field,
+    end: u8,
+    over: bool,
+    from: usize,
+    upto: usize,
 }
 
 // The line so far. Its values stand in an array of their own, as so many words.
 pub struct Line {
     pub command: u64,
-    pub fields: usize,
+    fields: usize,
     // The last name behind the command: the register that is shown.
     pub name: u64,
     // The numbers behind the command, each counted from 4294967296 below zero.
-    pub numbers: [u64; 8],
+    numbers: [u64; 8],
     pub values: usize,
 }
 
@@ -50,8 +50,8 @@ pub struct Line {
 pub struct Read {
     pub line: Line,
     pub over: bool,
-    pub from: usize,
-    pub upto: usize,
+    from: usize,
+    upto: usize,
 }
 
 // A decimal number with one more digit. One that is past all that a list may have stays as it is, as does one before another character.

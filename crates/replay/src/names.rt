@@ -4,15 +4,22 @@ ghost use Prim.Native.Nat.{_≤_, _<_};
 
 // font, cu, panel, out, file
 pub const FONT: u64 = 06_15_14_20;
+
 pub const CU: u64 = 03_21;
+
 pub const PANEL: u64 = 16_01_14_05_12;
+
 pub const OUT: u64 = 15_21_20;
+
 pub const FILE: u64 = 06_09_12_05;
 
 // keep1, flip1, keep2, flip2
 pub const KEEP1: u64 = 11_05_05_16_49;
+
 pub const FLIP1: u64 = 06_12_09_16_49;
+
 pub const KEEP2: u64 = 11_05_05_16_50;
+
 pub const FLIP2: u64 = 06_12_09_16_50;
 
 // show
@@ -20,8 +27,11 @@ pub const SHOW: u64 = 19_08_15_23;
 
 // check, glyph, dots, row
 pub const CHECK: u64 = 03_08_05_03_11;
+
 pub const GLYPH: u64 = 07_12_25_16_08;
+
 pub const DOTS: u64 = 04_15_20_19;
+
 pub const ROW: u64 = 18_15_23;
 
 fn letter(b: u8) -> u64

@@ -1,16 +1,24 @@
 // The registers. Those that no call is lent together share an array, each from a place of its own and with room for the most that it may
 // hold: `font` and `cu` stand in `files`, `panel` and `out` in `lent`, `keep1` and `keep2` in `keeps`, `flip1` and `flip2` in `flips`.
 // The bytes of `file` have an array to themselves.
-use crate::list::{Line, VALUES, least};
+use crate::list::Line;
+use crate::list::VALUES;
+use crate::list::least;
 use crate::names;
-use crate::text::{TEXT, put, put_list, put_name};
+use crate::text::TEXT;
+use crate::text::put;
+use crate::text::put_list;
+use crate::text::put_name;
 
 pub const FILES: usize = 600_000;
+
 pub const LENT: usize = 110_000;
+
 pub const SHEETS: usize = 80_000;
+
 pub const BYTES: usize = 140_000;
 
-pub enum Array {
+enum Array {
     Files,
     Lent,
     Keeps,
@@ -20,16 +28,16 @@ pub enum Array {
 }
 
 // Where a register stands, how much it has room for, and which of the counts is its own.
-pub struct Register {
-    pub array: Array,
-    pub from: usize,
-    pub room: usize,
-    pub number: usize,
+struct Register {
+    array: Array,
+    from: usize,
+    room: usize,
+    number: usize,
 }
 
 // How many words each register holds; of `file`, bytes.
 pub struct Held {
-    pub counts: [usize; 9],
+    counts: [usize; 9],
 }
 
 impl Register {
@@ -179,7 +187,13 @@ pub fn show(
     put(text, at, b'\n')
 }
 
-fn put_bytes(text: &mut [u8; TEXT], at: usize, bytes: &[u8], count: usize, values: &mut [u16; VALUES]) -> usize {
+fn put_bytes(
+    text: &mut [u8; TEXT],
+    at: usize,
+    bytes: &[u8],
+    count: usize,
+    values: &mut [u16; VALUES],
+) -> usize {
     let spread = widen(bytes, count, values);
     put_list(text, at, words::part(values, 0, spread), 2)
 }

@@ -2,7 +2,6 @@
 // answers how many there are then.
 use crate::names;
 use libc::STDOUT_FILENO;
-
 ghost use Prim.Native.Nat.{_≤_, _<_};
 ghost use lib.ListN.{length};
 

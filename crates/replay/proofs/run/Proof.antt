@@ -1,8 +1,8 @@
--- `replay::main` is safe and ends: its turns are counted down.
+-- `replay::run` is safe and ends: its turns are counted down.
 -- Assumes nothing.
 use borrow.Author.Needs.{needs}
-use Rattle.replay.proofs.main.Statement.{statement}
-use Rattle.replay.proofs.main.Tie as tie
+use Rattle.replay.proofs.run.Statement.{statement}
+use Rattle.replay.proofs.run.Tie as tie
 
 abbrev Inv-loop : tie.InvT-loop
 Inv-loop buffer₀ values₀ files₀ lent₀ keeps₀ flips₀ bytes₀ text₀ read₀ state₀ turns₀ buffer values files lent keeps flips bytes text read state turns = Unit {0}
@@ -43,8 +43,8 @@ loop-again c = search needs
 returns-2 : tie.Need-returns-2 Inv-loop μ-loop
 returns-2 c = search needs
 
-pub main-spec : {M : Type 1} → statement M
-main-spec =
+pub run-spec : {M : Type 1} → statement M
+run-spec =
     tie.close
     (tie.spec
     Inv-loop
