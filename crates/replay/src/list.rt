@@ -287,6 +287,28 @@ impl Line {
         }
         (n - 4_294_967_296) as u32
     }
+
+    // Number k behind the command, from 0, one that may have a sign.
+    pub fn signed(self, k: usize) -> i32 {
+        if 7 < k {
+            return 0;
+        }
+        signed(self.numbers[k])
+    }
+}
+
+// A number with a sign, from one counted from 4294967296 below zero; the nearest where it does not fit.
+fn signed(n: u64) -> i32 {
+    if n < 2_147_483_649 {
+        return -2_147_483_648;
+    }
+    if 6_442_450_943 < n {
+        return 2_147_483_647;
+    }
+    if n < 4_294_967_296 {
+        return -((4_294_967_296 - n) as i32);
+    }
+    (n - 4_294_967_296) as i32
 }
 
 impl Read {

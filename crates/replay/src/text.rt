@@ -80,6 +80,22 @@ pub fn put_negative(text: &mut [u8; TEXT], at: usize, below: u64) -> usize {
     put_digits(text, at, below)
 }
 
+// A number without its sign.
+fn size(n: i32) -> u64 {
+    if n < 0 {
+        return (0 - n as i64) as u64;
+    }
+    n as u64
+}
+
+// A field that is a number with a sign.
+pub fn put_signed(text: &mut [u8; TEXT], at: usize, n: i32) -> usize {
+    if n < 0 {
+        return put_negative(text, at, size(n));
+    }
+    put_number(text, at, size(n))
+}
+
 fn put_hexadecimal(text: &mut [u8; TEXT], at: usize, digit: u16) -> usize
     requires { ⌜ digit < 16 ⌝ }
 {
