@@ -1,6 +1,6 @@
-// The registers. Those that no call is lent together share an array, each from a place of its own and with room for the most that it may
-// hold: `font` and `cu` stand in `files`, `panel` and `out` in `lent`, `keep1` and `keep2` in `keeps`, `flip1` and `flip2` in `flips`.
-// The bytes of `file` have an array to themselves.
+// The registers share arrays, each from a place of its own and with room for the most that it may hold: `font` and `cu` stand in `files`,
+// `panel` and `out` in `lent`, `keep1` and `keep2` in `keeps`, `flip1` and `flip2` in `flips`, and the bytes of `file` by themselves.
+// No call but `join` is lent two registers of one array.
 use crate::list::Line;
 use crate::list::VALUES;
 use crate::list::least;
