@@ -1,0 +1,104 @@
+// Answers a written list of calls, read on standard input, as docs/REPLAY.md says.
+mod font_calls;
+mod list;
+mod names;
+mod registers;
+mod text;
+
+use list::INPUT;
+use list::Line;
+use list::Read;
+use list::VALUES;
+use registers::BYTES;
+use registers::FILES;
+use registers::Held;
+use registers::LENT;
+use registers::SHEETS;
+use text::TEXT;
+
+// What the registers hold, and how much text waits to be written.
+struct State {
+    held: Held,
+    at: usize,
+}
+
+// Performs a line.
+fn perform(
+    line: Line,
+    state: State,
+    values: &mut [u16; VALUES],
+    files: &mut [u16; FILES],
+    lent: &mut [u16; LENT],
+    keeps: &mut [u16; SHEETS],
+    flips: &mut [u16; SHEETS],
+    bytes: &mut [u8; BYTES],
+    text: &mut [u8; TEXT],
+) -> State {
+    let before = state.held;
+    let held = registers::set(line, values, before, files, lent, keeps, flips, bytes);
+    let at = registers::show(
+        line,
+        values,
+        held,
+        files,
+        lent,
+        keeps,
+        flips,
+        bytes,
+        text,
+        state.at,
+    );
+    let at = font_calls::answer(line, registers::font(files, held), text, at);
+    State { held, at }
+}
+
+// Performs line after line. A proved loop has to end, and nothing says that a list does: the turns are counted down from a number that no
+// run uses up.
+fn run(
+    buffer: &mut [u8; INPUT],
+    values: &mut [u16; VALUES],
+    files: &mut [u16; FILES],
+    lent: &mut [u16; LENT],
+    keeps: &mut [u16; SHEETS],
+    flips: &mut [u16; SHEETS],
+    bytes: &mut [u8; BYTES],
+    text: &mut [u8; TEXT],
+) {
+    let mut read = Read::nothing();
+    let mut state = State {
+        held: Held::nothing(),
+        at: 0,
+    };
+    let mut turns = u64::MAX;
+    while 0 < turns {
+        turns -= 1;
+        read = list::next_line(read, buffer, values);
+        if read.over {
+            text::flush(text, state.at);
+            return;
+        }
+        let line = read.line;
+        state = perform(line, state, values, files, lent, keeps, flips, bytes, text);
+    }
+}
+
+fn main() {
+    let mut buffer = [0u8; INPUT];
+    let mut values = [0u16; VALUES];
+    let mut files = [0u16; FILES];
+    let mut lent = [0u16; LENT];
+    let mut keeps = [0u16; SHEETS];
+    let mut flips = [0u16; SHEETS];
+    let mut bytes = [0u8; BYTES];
+    let mut text = [0u8; TEXT];
+    run(
+        &mut buffer,
+        &mut values,
+        &mut files,
+        &mut lent,
+        &mut keeps,
+        &mut flips,
+        &mut bytes,
+        &mut text,
+    );
+}

@@ -1,0 +1,62 @@
+// The names in a list, each told by a number: two digits for a character, a letter's place in the alphabet or a digit's code in ASCII.
+// So the number of a name can be read, here and by whoever prints it.
+ghost use Prim.Native.Nat.{_≤_, _<_};
+
+// font, cu, panel, out, file
+pub const FONT: u64 = 06_15_14_20;
+
+pub const CU: u64 = 03_21;
+
+pub const PANEL: u64 = 16_01_14_05_12;
+
+pub const OUT: u64 = 15_21_20;
+
+pub const FILE: u64 = 06_09_12_05;
+
+// keep1, flip1, keep2, flip2
+pub const KEEP1: u64 = 11_05_05_16_49;
+
+pub const FLIP1: u64 = 06_12_09_16_49;
+
+pub const KEEP2: u64 = 11_05_05_16_50;
+
+pub const FLIP2: u64 = 06_12_09_16_50;
+
+// show
+pub const SHOW: u64 = 19_08_15_23;
+
+// check, glyph, dots, row
+pub const CHECK: u64 = 03_08_05_03_11;
+
+pub const GLYPH: u64 = 07_12_25_16_08;
+
+pub const DOTS: u64 = 04_15_20_19;
+
+pub const ROW: u64 = 18_15_23;
+
+fn letter(b: u8) -> u64
+    ensures { λ r. ⌜ r ≤ 255 ⌝ }
+{
+    if b < 97 {
+        return b as u64;
+    }
+    (b - 96) as u64
+}
+
+// The name with one more character. A name that is too long for a number is told by its first nine.
+pub fn extended(name: u64, b: u8) -> u64 {
+    if 9_999_999_999_999_999 < name {
+        return name;
+    }
+    name * 100 + letter(b)
+}
+
+// The character that two digits of a name stand for.
+pub fn character(pair: u64) -> u8
+    requires { ⌜ pair < 100 ⌝ }
+{
+    if pair < 27 {
+        return pair as u8 + 96;
+    }
+    pair as u8
+}

@@ -1,0 +1,205 @@
+// The registers share arrays, each from a place of its own and with room for the most that it may hold: `font` and `cu` stand in `files`,
+// `panel` and `out` in `lent`, `keep1` and `keep2` in `keeps`, `flip1` and `flip2` in `flips`, and the bytes of `file` by themselves.
+// No call but `join` is lent two registers of one array.
+use crate::list::Line;
+use crate::list::VALUES;
+use crate::list::least;
+use crate::names;
+use crate::text::TEXT;
+use crate::text::put;
+use crate::text::put_list;
+use crate::text::put_name;
+
+pub const FILES: usize = 600_000;
+
+pub const LENT: usize = 110_000;
+
+pub const SHEETS: usize = 80_000;
+
+pub const BYTES: usize = 140_000;
+
+enum Array {
+    Files,
+    Lent,
+    Keeps,
+    Flips,
+    Bytes,
+    Nowhere,
+}
+
+// Where a register stands, how much it has room for, and which of the counts is its own.
+struct Register {
+    array: Array,
+    from: usize,
+    room: usize,
+    number: usize,
+}
+
+// How many words each register holds; of `file`, bytes.
+pub struct Held {
+    counts: [usize; 9],
+}
+
+impl Register {
+    fn new(array: Array, from: usize, room: usize, number: usize) -> Register {
+        Register {
+            array,
+            from,
+            room,
+            number,
+        }
+    }
+
+    fn named(name: u64) -> Register {
+        match name {
+            names::FONT => Register::new(Array::Files, 0, 70_000, 0),
+            names::CU => Register::new(Array::Files, 70_000, 530_000, 1),
+            names::PANEL => Register::new(Array::Lent, 0, 40_000, 2),
+            names::OUT => Register::new(Array::Lent, 40_000, 70_000, 3),
+            names::KEEP1 => Register::new(Array::Keeps, 0, 40_000, 4),
+            names::KEEP2 => Register::new(Array::Keeps, 40_000, 40_000, 5),
+            names::FLIP1 => Register::new(Array::Flips, 0, 40_000, 6),
+            names::FLIP2 => Register::new(Array::Flips, 40_000, 40_000, 7),
+            names::FILE => Register::new(Array::Bytes, 0, BYTES, 8),
+            _ => Register::new(Array::Nowhere, 0, 0, 9),
+        }
+    }
+}
+
+impl Held {
+    pub fn nothing() -> Held {
+        Held { counts: [0; 9] }
+    }
+
+    fn of(self, register: Register) -> usize {
+        let number = register.number;
+        if number < 9 {
+            return self.counts[number];
+        }
+        0
+    }
+
+    fn with(mut self, register: Register, count: usize) -> Held {
+        let number = register.number;
+        if number < 9 {
+            self.counts[number] = count;
+        }
+        self
+    }
+}
+
+// Copies the first `count` words to a place of another list, as far as there is room, and answers how many.
+fn copy(from: &[u16], count: usize, to: &mut [u16], place: usize, room: usize) -> usize {
+    if to.len() < place {
+        return 0;
+    }
+    let end = least(least(count, from.len()), least(room, to.len() - place));
+    let mut i = 0;
+    while i < end {
+        to[place + i] = from[i];
+        i += 1;
+    }
+    end
+}
+
+// Copies the first `count` words, which stand for bytes, and answers how many.
+fn narrow(from: &[u16], count: usize, to: &mut [u8]) -> usize {
+    let end = least(count, least(from.len(), to.len()));
+    let mut i = 0;
+    while i < end {
+        to[i] = low(from[i]);
+        i += 1;
+    }
+    end
+}
+
+fn low(word: u16) -> u8 {
+    (word % 256) as u8
+}
+
+// Copies the first `count` bytes, which become words, and answers how many.
+fn widen(from: &[u8], count: usize, to: &mut [u16]) -> usize {
+    let end = least(count, least(from.len(), to.len()));
+    let mut i = 0;
+    while i < end {
+        to[i] = wide(from[i]);
+        i += 1;
+    }
+    end
+}
+
+fn wide(byte: u8) -> u16 {
+    byte as u16
+}
+
+// What the registers hold after a line. Where it sets one, its values go there.
+pub fn set(
+    line: Line,
+    values: &[u16; VALUES],
+    held: Held,
+    files: &mut [u16; FILES],
+    lent: &mut [u16; LENT],
+    keeps: &mut [u16; SHEETS],
+    flips: &mut [u16; SHEETS],
+    bytes: &mut [u8; BYTES],
+) -> Held {
+    let r = Register::named(line.command);
+    let array = r.array;
+    let count = match array {
+        Array::Files => copy(values, line.values, files, r.from, r.room),
+        Array::Lent => copy(values, line.values, lent, r.from, r.room),
+        Array::Keeps => copy(values, line.values, keeps, r.from, r.room),
+        Array::Flips => copy(values, line.values, flips, r.from, r.room),
+        Array::Bytes => narrow(values, line.values, bytes),
+        Array::Nowhere => 0,
+    };
+    held.with(r, count)
+}
+
+// Shows the register that a line asks for. The bytes of `file` are spread over words, which stand where a line's values would.
+pub fn show(
+    line: Line,
+    values: &mut [u16; VALUES],
+    held: Held,
+    files: &[u16; FILES],
+    lent: &[u16; LENT],
+    keeps: &[u16; SHEETS],
+    flips: &[u16; SHEETS],
+    bytes: &[u8; BYTES],
+    text: &mut [u8; TEXT],
+    at: usize,
+) -> usize {
+    if line.command != names::SHOW {
+        return at;
+    }
+    let r = Register::named(line.name);
+    let array = r.array;
+    let count = held.of(r);
+    let at = put_name(text, at, line.name);
+    let at = match array {
+        Array::Files => put_list(text, at, words::part(files, r.from, count), 4),
+        Array::Lent => put_list(text, at, words::part(lent, r.from, count), 4),
+        Array::Keeps => put_list(text, at, words::part(keeps, r.from, count), 4),
+        Array::Flips => put_list(text, at, words::part(flips, r.from, count), 4),
+        Array::Bytes => put_bytes(text, at, bytes, count, values),
+        Array::Nowhere => at,
+    };
+    put(text, at, b'\n')
+}
+
+fn put_bytes(
+    text: &mut [u8; TEXT],
+    at: usize,
+    bytes: &[u8],
+    count: usize,
+    values: &mut [u16; VALUES],
+) -> usize {
+    let spread = widen(bytes, count, values);
+    put_list(text, at, words::part(values, 0, spread), 2)
+}
+
+// The words of the font.
+pub fn font(files: &[u16; FILES], held: Held) -> &[u16] {
+    let r = Register::named(names::FONT);
+    words::part(files, r.from, held.of(r))
+}
