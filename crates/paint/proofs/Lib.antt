@@ -6,3 +6,4 @@ pub mod Rows
 pub mod Labels
 pub mod Accepted
 pub mod Demand
+pub mod Outcomes

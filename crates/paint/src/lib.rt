@@ -52,7 +52,7 @@ impl Shape {
 
 impl Strip {
     // Strip k of a panel.
-    pub fn of(s: Shape, k: u32) -> Strip
+    fn of(s: Shape, k: u32) -> Strip
         ensures { λ r. ⌜ r ≡ stripOf s k ⌝ }
     {
         let width = s.width as usize;
@@ -96,7 +96,7 @@ pub fn bad_panel(s: Shape, lent: usize) -> bool
 }
 
 impl Pen {
-    pub fn at(x: i32) -> Pen
+    fn at(x: i32) -> Pen
         ensures { λ r. ⌜ r ≡ penAt x ⌝ }
         ensures near { λ r. ⌜ (r .place ≤ 3071) × (r .substitutes ≤ 0) ⌝ }
     {

@@ -1,0 +1,25 @@
+-- Two outcomes that a contract permits are equal, for each public function of this crate: the reply, and every word of a lent panel.
+use mathlib.Core.Path.{_≡_, sym, _∙_}
+use denote.Ref.{now}
+use contract.Lifetimes.{Lfts}
+use denote.Triple.Clauses.{AtExit}
+use borrow.Fn.Kinds.{Dens, resT, endedOf}
+use Rattle.words.proofs.Outcomes.{OneReply}
+use Rattle.paint.proofs.Shape.panel_words as panel-words
+use Rattle.paint.proofs.bad_panel as bad-panel
+use Rattle.paint.proofs.measure as measure
+use Rattle.paint.proofs.paint as paint
+
+pub panel-words-one : OneReply 0 panel-words.Kinds.ps panel-words.Kinds.r panel-words.Reads.Post
+panel-words-one κs a r o e e′ p q = p ∙ sym q
+
+pub bad-panel-one : OneReply 0 bad-panel.Kinds.ps bad-panel.Kinds.r bad-panel.Reads.Post
+bad-panel-one κs a r o e e′ p q = p ∙ sym q
+
+pub measure-one : OneReply 2 measure.Kinds.ps measure.Kinds.r measure.Reads.Post
+measure-one κs a r o e e′ p q = p ∙ sym q
+
+pub paint-one : (κs : Lfts 3) (a : Dens κs paint.Kinds.ps) (r o : resT paint.Kinds.r κs .Denot) (e e′ : AtExit (endedOf 3 paint.Kinds.ps paint.Kinds.r) κs)
+    → paint.Reads.Post κs a r e → paint.Reads.Post κs a o e′
+    → (r ≡ o) × (now (e .1 .1 .1 .1 .1 .1 .1 .0) ≡ now (e′ .1 .1 .1 .1 .1 .1 .1 .0))
+paint-one κs a r o e e′ p q = (p .0 ∙ sym (q .0), p .1 ∙ sym (q .1))
