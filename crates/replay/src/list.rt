@@ -204,6 +204,8 @@ fn numbers_before(command: u64) -> usize {
     match command {
         names::FONT | names::CU | names::PANEL | names::OUT | names::FILE => 0,
         names::KEEP1 | names::FLIP1 | names::KEEP2 | names::FLIP2 => 0,
+        names::MEASURE => 1,
+        names::PAINT => 7,
         _ => 1000,
     }
 }

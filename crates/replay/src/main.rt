@@ -1,5 +1,6 @@
 // Answers a written list of calls, read on standard input, as docs/REPLAY.md says.
 mod font_calls;
+mod label_calls;
 mod list;
 mod names;
 mod registers;
@@ -48,7 +49,9 @@ fn perform(
         text,
         state.at,
     );
-    let at = font_calls::answer(line, registers::font(files, held), text, at);
+    let font = registers::font(files, held);
+    let at = font_calls::answer(line, font, text, at);
+    let at = label_calls::answer(line, values, font, lent, registers::panel(held), text, at);
     State { held, at }
 }
 

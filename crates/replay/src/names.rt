@@ -34,6 +34,11 @@ pub const DOTS: u64 = 04_15_20_19;
 
 pub const ROW: u64 = 18_15_23;
 
+// measure, paint
+pub const MEASURE: u64 = 13_05_01_19_21_18_05;
+
+pub const PAINT: u64 = 16_01_09_14_20;
+
 fn letter(b: u8) -> u64
     ensures { λ r. ⌜ r ≤ 255 ⌝ }
 {

@@ -103,7 +103,7 @@ fn copy(from: &[u16], count: usize, to: &mut [u16], place: usize, room: usize) -
 }
 
 // Copies the first `count` words, which stand for bytes, and answers how many.
-fn narrow(from: &[u16], count: usize, to: &mut [u8]) -> usize {
+pub fn narrow(from: &[u16], count: usize, to: &mut [u8]) -> usize {
     let end = least(count, least(from.len(), to.len()));
     let mut i = 0;
     while i < end {
@@ -202,4 +202,9 @@ fn put_bytes(
 pub fn font(files: &[u16; FILES], held: Held) -> &[u16] {
     let r = Register::named(names::FONT);
     words::part(files, r.from, held.of(r))
+}
+
+// How many words the panel has; they are the first of `lent`.
+pub fn panel(held: Held) -> usize {
+    held.of(Register::named(names::PANEL))
 }
