@@ -5,5 +5,6 @@ pub mod Marks
 pub mod Rows
 pub mod Labels
 pub mod Accepted
+pub mod Landing
 pub mod Demand
 pub mod Outcomes

@@ -1,0 +1,88 @@
+-- Where the dots of a picture land, in the paper's words: a row and column of the panel is marked exactly when a dot of the picture lands there
+-- within the strip. And two strips share no column.
+use Prim.Native.Nat.{ℕ, _+_, _-_, _*_, _/_, _<_, _≤_}
+use mathlib.Core.Path.{_≡_, refl, sym, ap, ap₂, _∙_}
+use mathlib.Core.Bool.{Bool, true, false, cond, _&&_}
+use native.Mathlib.Nat.{div-eq-of-lt-le, zero-mul, one-mul, mul-zero, mul-one, add-mul}
+use native.Mathlib.Omega.{arith}
+use lib.Dec.{leb, ltb}
+use borrow.Author.Tests.{leb-true, ltb-true, le-leb, lt-ltb}
+use Rattle.words.proofs.BitLaws.{on-digit}
+use Rattle.fonts.specs.declared.Glyph.{Glyph}
+use Rattle.paint.specs.declared.Shape.{Shape}
+use Rattle.paint.specs.declared.Strip.{Strip}
+use Rattle.paint.specs.declared.Pen.{Pen}
+use Rattle.paint.specs.Panel.{stripOf}
+use Rattle.paint.specs.Pen.{inStrip, dotAlong, mark}
+use Rattle.paint.proofs.Marks.{in-strip-bit, along-bit}
+
+choice-one : (t : Bool) (a : ℕ) → cond t a 0 ≡ 1 → (t ≡ true) × (a ≡ 1)
+choice-one true a e = (refl, e)
+choice-one false a e = absurd (omega arith)
+
+both : (s t : Bool) → (s && t) ≡ true → (s ≡ true) × (t ≡ true)
+both true t e = (refl, e)
+both false t e = absurd (mathlib.Core.Bool.false≢true e)
+
+product-one : (a b : ℕ) → a < 2 → b < 2 → a * b ≡ 1 → (a ≡ 1) × (b ≡ 1)
+product-one a b ha hb =
+    on-digit (λ (x : ℕ). x * b ≡ 1 → (x ≡ 1) × (b ≡ 1))
+    (λ e. let z : 0 ≡ 1 = sym (zero-mul b) ∙ e in absurd (omega arith))
+    (λ e. (refl, sym (one-mul b) ∙ e)) a ha
+
+pub within-strip : (strip : Strip) (column : ℕ) → inStrip strip column ≡ 1 → (strip .from ≤ column) × (column < strip .upto)
+unfolding inStrip
+within-strip strip column e =
+    let tests = both (leb (strip .from) column) (ltb column (strip .upto)) (choice-one _ 1 e .0) in
+    (leb-true (strip .from) column (tests .0), ltb-true column (strip .upto) (tests .1))
+
+-- a column of two strips is a column of one
+pub strips-apart : (s : Shape) (k l column : ℕ) → inStrip (stripOf s k) column ≡ 1 → inStrip (stripOf s l) column ≡ 1 → k ≡ l
+strips-apart s k l column ink inl = sym (number k (within-strip (stripOf s k) column ink)) ∙ number l (within-strip (stripOf s l) column inl)
+  where
+    number : (m : ℕ) → (m * s .width ≤ column) × (column < m * s .width + s .width) → column / s .width ≡ m
+    number m h =
+        let next : (m + 1) * s .width ≡ m * s .width + s .width = add-mul m 1 (s .width) ∙ ap (λ (n : ℕ). m * s .width + n) (one-mul (s .width)) in
+        div-eq-of-lt-le (s .width) (h .0) (rw next (h .1))
+
+-- dot (r, j) of a picture lands on a row and column of the panel: "Picture row r lands on panel row y - ascent + r", and its left column at the
+-- pen and the glyph's place, counted in strip columns
+pub record Lands (dot : Glyph → ℕ → ℕ → ℕ) (strip : Strip) (y : ℕ) (pen : Pen) (g : Glyph) (row column : ℕ) : Type 0 where
+  pub r : ℕ
+  pub j : ℕ
+  pub set : dot g r j ≡ 1
+  pub down : y + r ≡ row + 2048 + g .ascent
+  pub across : strip .from + (pen .place + g .place) + j ≡ column + 4096
+  pub from : strip .from ≤ column
+  pub upto : column < strip .upto
+
+module _ (dot : Glyph → ℕ → ℕ → ℕ) (strip : Strip) (y : ℕ) (pen : Pen) (g : Glyph) (row column : ℕ) where
+  pub marked-lands : ((r j : ℕ) → dot g r j < 2) → mark dot strip y pen g row column ≡ 1 → Lands dot strip y pen g row column
+  unfolding mark dotAlong
+  marked-lands bits e =
+      let below = row + 2048 + g .ascent in
+      let left = pen .place + g .place in
+      let at = column + 4096 - strip .from in
+      let rows = choice-one (leb y below) _ e in
+      let factors =
+          product-one (dotAlong (dot g (below - y)) left at) (inStrip strip column)
+          (along-bit (dot g (below - y)) (bits (below - y)) left 0 at) (in-strip-bit strip column) (rows .1) in
+      let reaches = choice-one (leb left at) _ (factors .0) in
+      let inside = within-strip strip column (factors .1) in
+      let le₁ : y ≤ below = leb-true y below (rows .0) in
+      let le₂ : left ≤ at = leb-true left at (reaches .0) in
+      record { r = below - y; j = at - left; set = reaches .1; down = omega arith; across = omega arith; from = inside .0; upto = inside .1 }
+
+  pub lands-marked : Lands dot strip y pen g row column → mark dot strip y pen g row column ≡ 1
+  unfolding mark dotAlong inStrip
+  lands-marked l =
+      let below = row + 2048 + g .ascent in
+      let left = pen .place + g .place in
+      let at = column + 4096 - strip .from in
+      let down = l .down in
+      let across = l .across in
+      let from = l .from in
+      let row-is : below - y ≡ l .r = omega arith in
+      let column-is : at - left ≡ l .j = omega arith in
+      rw (le-leb y below (omega arith), le-leb left at (omega arith), le-leb (strip .from) column (l .from), lt-ltb column (strip .upto) (l .upto))
+      (mul-one (dot g (below - y) (at - left)) ∙ ap₂ (dot g) row-is column-is ∙ l .set)
