@@ -65,8 +65,8 @@ module _ (dot : Glyph → ℕ → ℕ → ℕ) (strip : Strip) (y : ℕ) (pen : 
       let at = column + 4096 - strip .from in
       let rows = choice-one (leb y below) _ e in
       let factors =
-          product-one (dotAlong (dot g (below - y)) left at) (inStrip strip column)
-          (along-bit (dot g (below - y)) (bits (below - y)) left 0 at) (in-strip-bit strip column) (rows .1) in
+      product-one (dotAlong (dot g (below - y)) left at) (inStrip strip column)
+      (along-bit (dot g (below - y)) (bits (below - y)) left 0 at) (in-strip-bit strip column) (rows .1) in
       let reaches = choice-one (leb left at) _ (factors .0) in
       let inside = within-strip strip column (factors .1) in
       let le₁ : y ≤ below = leb-true y below (rows .0) in

@@ -18,11 +18,14 @@ pub record Sheet : Type 0 where
   pub keep : List ℕ
   pub flip : List ℕ
 
+abbrev pub sheetOf : List ℕ → List ℕ → Sheet
+sheetOf keep flip = record { keep = keep; flip = flip }
+
 unfoldable pub lengths : Sheet → List ℕ
 lengths sheet = length (sheet .keep) ∷ length (sheet .flip) ∷ []
 
 -- the effect that a sheet holds for word i
-unfoldable pub effectAt : Sheet → ℕ → Effect
+abbrev pub effectAt : Sheet → ℕ → Effect
 effectAt sheet i = record { keep = word (sheet .keep) i; flip = word (sheet .flip) i }
 
 -- a sheet whose first R × H effects have become f 0, f 1, .., and whose rest stays

@@ -157,3 +157,11 @@ altered-middle k a b c e p ofwords words left right =
     ∙ altered-idle (k + a + b) c e (altered k (a + b) e p) (altered-words k (a + b) e p ofwords words) right
     ∙ altered-on k a b e p
     ∙ ap (altered (k + a) b e) (altered-idle k a e p words left)
+
+-- the same, in a run from the first word on
+pub altered-next : (n d : ℕ) (e : ℕ → Effect) (now before : List ℕ)
+    → now ≡ altered 0 n e before → d ≡ applyTo (e n) (word now n) → set now n d ≡ altered 0 (n + 1) e before
+altered-next n d e now before same becomes =
+    let here = zero-add n in
+    ap (λ (i : ℕ). set now i d) (sym here)
+    ∙ altered-step 0 n d e now before same (becomes ∙ ap (λ (i : ℕ). applyTo (e i) (word now i)) (sym here))

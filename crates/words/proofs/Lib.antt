@@ -6,5 +6,6 @@ pub mod Lists
 pub mod Bits
 pub mod Signs
 pub mod Effects
+pub mod Over
 pub mod Altering
 pub mod Outcomes
