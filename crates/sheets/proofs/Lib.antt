@@ -1,3 +1,4 @@
 pub mod Compute
 pub mod Cases
 pub mod Slices
+pub mod Done
