@@ -77,3 +77,13 @@ strip-fits k width rowwords h fit =
     let upto : (k + 1) * width ≤ 32 * width = mul-le-mul-right width (omega arith) in
     let next : (k + 1) * width ≡ k * width + width = ap (λ (n : ℕ). n * width) (add-one k) ∙ suc-mul k width in
     omega arith
+
+-- what a label's own numbers do not refuse in one mode, they do not refuse in Erase
+pub good-erase : (strip : ℕ) (x y : ℤ) (mode bytes : ℕ) → labelNumber strip x y mode bytes ≡ 0 → (0 ≡ labelNumber strip x y 1 bytes) × (mode ≤ 2)
+unfolding labelNumber firstOf
+good-erase strip x y mode bytes e =
+    let nine = passed (ltb 31 strip) 9 _ (omega arith) e in
+    let ten = passed (outside x || outside y) 10 _ (omega arith) (nine .1) in
+    let eleven = passed (ltb 64 bytes) 11 _ (omega arith) (ten .1) in
+    let twelve = passed (ltb 2 mode) 12 _ (omega arith) (eleven .1) in
+    (rw (nine .0, ten .0, eleven .0), ltb-false 2 mode (twelve .0))

@@ -1,6 +1,6 @@
 -- A label call: its refusals, its reply and what it leaves on the panel.
 use Prim.Native.Nat.{ℕ}
-use mathlib.Core.Bool.{Bool, cond, _||_}
+use mathlib.Core.Bool.{Bool, true, false, cond, _||_}
 use mathlib.Core.List.{List, [], _∷_}
 use lib.Dec.{ltb, eqb}
 use lib.IntN.{ℤ, pos}
@@ -57,6 +57,10 @@ replyOf s lent call = replyFor (callNumber s lent call) (lastPen (call .font) (c
 abbrev pub replyNumber : Reply → ℕ
 replyNumber (Done pen substitutes) = 0
 replyNumber (Refused number) = number
+
+abbrev pub isRefused : Reply → Bool
+isRefused (Done pen substitutes) = false
+isRefused (Refused number) = true
 
 abbrev pub replyPen : Reply → ℤ
 replyPen (Done pen substitutes) = pen

@@ -2,3 +2,5 @@ pub mod Compute
 pub mod Cases
 pub mod Slices
 pub mod Done
+pub mod Gathering
+pub mod Outcomes

@@ -1,4 +1,5 @@
 // Sheets: what labels do to a panel, gathered, joined and applied later.
+use paint::Reply;
 use paint::Shape;
 use words::Effect;
 ghost use mathlib.Core.Path.{_≡_};
@@ -7,7 +8,8 @@ ghost use lib.ListN.{length};
 ghost use Rattle.words.specs.Word.{over};
 ghost use Rattle.words.specs.Effect.{altered};
 ghost use Rattle.words.specs.Effect.{joinOf};
-ghost use Rattle.sheets.specs.Sheet.{sheetOf, effectAt, freshNumber, freshAfter, joinNumber, joinAfter, applyNumber, applyAfter};
+ghost use Rattle.paint.specs.Label.{callOf, isRefused};
+ghost use Rattle.sheets.specs.Sheet.{sheetOf, effectAt, freshNumber, freshAfter, joinNumber, joinAfter, applyNumber, applyAfter, gatherReply, gatherAfter};
 
 // The first n words become this one.
 fn fill(list: &mut [u16], n: usize, word: u16)
@@ -112,4 +114,51 @@ pub fn join(
     }
     join_words(s.panel_words(), keep, flip, then_keep, then_flip);
     0
+}
+
+fn refused(reply: Reply) -> bool
+    ensures { λ r. ⌜ r ≡ isRefused reply ⌝ }
+{
+    match reply {
+        Reply::Done {
+            pen: _,
+            substitutes: _,
+        } => false,
+        Reply::Refused(_) => true,
+    }
+}
+
+// Gathers a label: its effect is joined onto the sheet. What that does to flip is what painting does to a panel, and what it does to keep is
+// what erasing does, unless the mode is Invert, which keeps every dot.
+pub fn gather(
+    font: &[u16],
+    s: Shape,
+    strip: u32,
+    x: i32,
+    y: i32,
+    mode: u32,
+    label: &[u8],
+    keep: &mut [u16],
+    flip: &mut [u16],
+) -> Reply
+    ensures { λ r. ⌜ r ≡ gatherReply s (callOf (now (font .entry)) strip x y mode (now (label .entry))) (sheetOf (now (keep .entry)) (now (flip .entry))) ⌝ }
+    ensures keep { λ r. ⌜ now (keep .exit) ≡ gatherAfter s (callOf (now (font .entry)) strip x y mode (now (label .entry))) (sheetOf (now (keep .entry)) (now (flip .entry))) .keep ⌝ }
+    ensures flip { λ r. ⌜ now (flip .exit) ≡ gatherAfter s (callOf (now (font .entry)) strip x y mode (now (label .entry))) (sheetOf (now (keep .entry)) (now (flip .entry))) .flip ⌝ }
+{
+    let refusal = fonts::number(font);
+    if refusal != 0 {
+        return Reply::Refused(refusal);
+    }
+    if paint::bad_panel(s, keep.len()) {
+        return Reply::Refused(8);
+    }
+    let reply = paint::paint(font, s, strip, x, y, mode, label, flip);
+    if refused(reply) {
+        return reply;
+    }
+    if mode == 2 {
+        return reply;
+    }
+    paint::paint(font, s, strip, x, y, 1, label, keep);
+    reply
 }
