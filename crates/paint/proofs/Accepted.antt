@@ -8,7 +8,7 @@ use native.Mathlib.Numerals.{add-one}
 use native.Mathlib.Omega.{arith}
 use lib.Dec.{ltb}
 use lib.IntN.{ℤ}
-use borrow.Author.Tests.{ltb-false}
+use borrow.Author.Tests.{ltb-false, le-ltb}
 use Rattle.words.specs.Refusal.{firstOf, notWithin}
 use Rattle.words.specs.Place.{outside}
 use Rattle.paint.specs.declared.Shape.{Shape}
@@ -87,3 +87,10 @@ good-erase strip x y mode bytes e =
     let eleven = passed (ltb 64 bytes) 11 _ (omega arith) (ten .1) in
     let twelve = passed (ltb 2 mode) 12 _ (omega arith) (eleven .1) in
     (rw (nine .0, ten .0, eleven .0), ltb-false 2 mode (twelve .0))
+
+-- R × H words are enough for a shape that some slice passes
+pub just-enough : (s : Shape) (room : ℕ) → badPanel s (room ∷ []) ≡ false → badPanel s (s .rowwords * s .rows ∷ []) ≡ false
+unfolding badPanel someShort
+just-enough s room e =
+    let shape = neither (badShape s) (ltb room (s .rowwords * s .rows) || false) e .0 in
+    rw (shape, le-ltb (s .rowwords * s .rows) (s .rowwords * s .rows) (omega arith))

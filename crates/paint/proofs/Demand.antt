@@ -13,12 +13,12 @@ use Rattle.words.specs.declared.Mode.the-variants.{Paint, Erase, Invert}
 use Rattle.words.specs.Word.{word, bitOf, wordOf}
 use Rattle.words.specs.Refusal.{firstOf, orElse}
 use Rattle.words.specs.Place.{placeOf}
-use Rattle.words.specs.Effect.{effectOf, applyTo, altered, modeOf}
+use Rattle.words.specs.Effect.{effectOf, applyTo, altered, modeOf, OfWords}
 use Rattle.words.proofs.Digits.{bit-and, bit-xor, bit-not, bit-zero, bit-ones, bit-digit}
 use Rattle.words.proofs.BitLaws.{on-digit}
 use Rattle.words.proofs.Bits.{bit-word-of}
 use Rattle.words.proofs.Chain.{stage-goes-on}
-use Rattle.words.proofs.Effects.{apply-identity, apply-join, mode-words}
+use Rattle.words.proofs.Effects.{apply-identity, apply-join, mode-words, join-words}
 use Rattle.words.proofs.Altering.{AllWords, altered-past, from-zero, apply-lt}
 use Rattle.fonts.specs.declared.Glyph.{Glyph}
 use Rattle.fonts.specs.Reading.{fontNumber}
@@ -193,3 +193,19 @@ measure-agrees s room call accepted =
     let own = good-places (call .strip) (call .x) (call .y) (call .mode) (length (call .label)) (label-accepted s room call accepted) in
     ap (λ (n : ℕ). replyFor n (lastPen (call .font) (call .x) (call .label)))
     (sym accepted ∙ stage-goes-on 0 _ _ _ (sym (font-accepted s room call accepted)) refl (rw (own .0, le-ltb 64 (length (call .label)) (own .1))))
+
+-- ---- an effect of a label is one of words
+
+label-words : (face : Face) → ((g : Glyph) (r j : ℕ) → face .dot g r j < 2) → (s : Shape) (strip : Strip) (y : ℕ) (mode : Mode) (label : List ℕ) (pen : Pen) (i : ℕ)
+    → OfWords (labelEffect face s strip y mode pen label i)
+unfolding labelEffect pictureEffect maskAt
+label-words face bits s strip y mode [] pen i = (omega arith, omega arith)
+label-words face bits s strip y mode (c ∷ label) pen i =
+    let g = face .glyph c in
+    join-words _ _
+    (mode-words mode _ (mask-lt (face .dot) strip y pen g (i / s .rowwords) (16 * (i % s .rowwords)) (bits g)))
+    (label-words face bits s strip y mode label (penAfter pen g) i)
+
+pub call-words : (s : Shape) (call : Call) (i : ℕ) → OfWords (callEffect s call i)
+unfolding callEffect
+call-words s call i = label-words (faceOf (call .font)) (face-bit (call .font)) s _ _ _ (call .label) _ i

@@ -3,4 +3,7 @@ pub mod Cases
 pub mod Slices
 pub mod Done
 pub mod Gathering
+pub mod Effects
+pub mod Holding
+pub mod Laws
 pub mod Outcomes

@@ -89,7 +89,7 @@ altered-idle k (suc n) e p h idle =
 pub apply-lt : (e : Effect) (d : ℕ) → OfWords e → d < 65536 → applyTo e d < 65536
 apply-lt e d h hd = xor-lt 16 (bitAnd d (e .keep)) (e .flip) (and-lt 16 d (e .keep) hd (h .0)) (h .1)
 
-set-words : (p : List ℕ) (i d : ℕ) → AllWords p → d < 65536 → AllWords (set p i d)
+pub set-words : (p : List ℕ) (i d : ℕ) → AllWords p → d < 65536 → AllWords (set p i d)
 set-words [] i d h hd j = h j
 set-words (w ∷ p) zero d h hd zero = hd
 set-words (w ∷ p) zero d h hd (suc j) = h (suc j)

@@ -1,0 +1,111 @@
+-- Demand 3. For any list of label calls of one panel size, refused ones among them, and fonts differing from call to call:
+-- a gathered sheet, applied, is painting in turn; a cut list's sheets join; two sheets are equal exactly when they treat every panel alike.
+use Prim.Native.Nat.{ℕ, zero, suc, _<_, _≤_}
+use mathlib.Core.Path.{_≡_, refl, sym, ap, ap₂, _∙_}
+use mathlib.Core.Bool.{false}
+use mathlib.Core.List.{List, [], _∷_, _++_}
+use native.Mathlib.Nat.{zero-add}
+use native.Mathlib.Omega.{arith}
+use lib.ListN.{length, take, getD, replicate, length-replicate, getD-replicate}
+use lib.Seq.{ext-getD, length-take-le, getD-take}
+use Rattle.words.specs.declared.Effect.{Effect}
+use Rattle.words.specs.Word.{word}
+use Rattle.words.specs.Effect.{identity, joinOf, applyTo, altered, OfWords}
+use Rattle.words.proofs.Effects.{identity-join, same-effect}
+use Rattle.words.proofs.Altering.{AllWords, altered-same, from-zero}
+use Rattle.paint.specs.declared.Shape.{Shape}
+use Rattle.paint.specs.Panel.{panelWords, badPanel}
+use Rattle.paint.specs.Label.{Call}
+use Rattle.paint.proofs.Accepted.{good-panel, just-enough}
+use Rattle.sheets.specs.Sheet.{Sheet, SameSheet, effectAt, freshAfter, joinAfter, applyAfter}
+use Rattle.sheets.specs.Calls.{paintAll, gatherAll}
+use Rattle.sheets.proofs.Effects.{callsEffect, calls-words, calls-cut, paint-all}
+use Rattle.sheets.proofs.Holding.{Lent, Holds, held-words, fresh-holds, gather-all-holds, join-holds, apply-holds}
+
+-- a list gathered into a fresh sheet: the sheet holds the list's effect
+gathered : (s : Shape) (calls : List Call) (sheet : Sheet) → Lent s sheet → Holds s (gatherAll s calls (freshAfter s sheet)) (callsEffect s calls)
+gathered s calls sheet lent =
+    let all = gather-all-holds s calls (freshAfter s sheet) (λ i. identity) (λ i. (omega arith, omega arith)) (fresh-holds s sheet lent) in
+    record { lent = all .lent; effects = λ i less. all .effects i less ∙ identity-join (callsEffect s calls i) (calls-words s calls i) }
+
+-- 1. "a gathered sheet, applied, is painting in turn"
+pub gather-apply : (s : Shape) (calls : List Call) (sheet : Sheet) (panel : List ℕ) → Lent s sheet → badPanel s (length panel ∷ []) ≡ false → AllWords panel
+    → applyAfter s (gatherAll s calls (freshAfter s sheet)) panel ≡ paintAll s calls panel
+gather-apply s calls sheet panel lent room words =
+    apply-holds s (gatherAll s calls (freshAfter s sheet)) (callsEffect s calls) panel (gathered s calls sheet lent) room
+    ∙ sym (paint-all s calls panel room words)
+
+-- sheets that hold equal effects are equal
+same-first : (n : ℕ) (p q : List ℕ) → n ≤ length p → n ≤ length q → ((i : ℕ) → i < n → word p i ≡ word q i) → take n p ≡ take n q
+same-first n p q hp hq same =
+    let lp = length-take-le n p hp in
+    let lq = length-take-le n q hq in
+    ext-getD 0 (take n p) (take n q) (lp ∙ sym lq)
+    (λ i less. let small : i < n = omega arith in getD-take n p i 0 small ∙ same i small ∙ sym (getD-take n q i 0 small))
+
+holds-same : (s : Shape) (a b : Sheet) (e f : ℕ → Effect) → Holds s a e → Holds s b f → ((i : ℕ) → i < panelWords s → e i ≡ f i) → SameSheet s a b
+unfolding SameSheet
+holds-same s a b e f h k same =
+    let alike : (i : ℕ) → i < panelWords s → effectAt a i ≡ effectAt b i = λ i less. h .effects i less ∙ same i less ∙ sym (k .effects i less) in (
+      same-first (panelWords s) (a .keep) (b .keep) (good-panel s _ (h .lent .keep-room) .long) (good-panel s _ (k .lent .keep-room) .long) (λ i less. ap (λ (t : Effect). t .keep) (alike i less)),
+      same-first (panelWords s) (a .flip) (b .flip) (good-panel s _ (h .lent .flip-room) .long) (good-panel s _ (k .lent .flip-room) .long) (λ i less. ap (λ (t : Effect). t .flip) (alike i less)),
+    )
+
+-- 2. "a cut list's sheets join": for every cut
+pub cut-join : (s : Shape) (xs ys : List Call) (whole first second : Sheet) → Lent s whole → Lent s first → Lent s second
+    → SameSheet s (gatherAll s (xs ++ ys) (freshAfter s whole)) (joinAfter s (gatherAll s xs (freshAfter s first)) (gatherAll s ys (freshAfter s second)))
+cut-join s xs ys whole first second lw lf ls =
+    holds-same s _ _ (callsEffect s (xs ++ ys)) (λ i. joinOf (callsEffect s xs i) (callsEffect s ys i))
+    (gathered s (xs ++ ys) whole lw)
+    (join-holds s _ _ (callsEffect s xs) (callsEffect s ys) (gathered s xs first lf) (gathered s ys second ls))
+    (λ i less. calls-cut s xs ys i)
+
+-- ---- 4. "two sheets are equal exactly when they treat every panel alike"
+
+holds-itself : (s : Shape) (sheet : Sheet) → Lent s sheet → Holds s sheet (effectAt sheet)
+holds-itself s sheet lent = record { lent = lent; effects = λ i less. refl }
+
+first-words : (n : ℕ) (p q : List ℕ) (i : ℕ) → take n p ≡ take n q → i < n → word p i ≡ word q i
+first-words n p q i same less = sym (getD-take n p i 0 less) ∙ ap (λ (l : List ℕ). getD l i 0) same ∙ getD-take n q i 0 less
+
+pub equal-treat-alike : (s : Shape) (a b : Sheet) → Lent s a → Lent s b → SameSheet s a b
+    → (panel : List ℕ) → badPanel s (length panel ∷ []) ≡ false → applyAfter s a panel ≡ applyAfter s b panel
+unfolding SameSheet
+equal-treat-alike s a b la lb same panel room =
+    let n = panelWords s in
+    apply-holds s a (effectAt a) panel (holds-itself s a la) room
+    ∙ altered-same 0 n (effectAt a) (effectAt b) panel
+    (λ j less. ap (effectAt a) (zero-add j)
+    ∙ (λ i. record { keep = first-words n (a .keep) (b .keep) j (same .0) less i; flip = first-words n (a .flip) (b .flip) j (same .1) less i })
+    ∙ ap (effectAt b) (sym (zero-add j)))
+    ∙ sym (apply-holds s b (effectAt b) panel (holds-itself s b lb) room)
+
+-- a panel of one word, over and over
+all-equal : (n d : ℕ) → d < 65536 → AllWords (replicate n d)
+all-equal zero d h i = omega arith
+all-equal (suc n) d h zero = h
+all-equal (suc n) d h (suc i) = all-equal n d h i
+
+pub alike-are-equal : (s : Shape) (a b : Sheet) → Lent s a → Lent s b
+    → ((panel : List ℕ) → badPanel s (length panel ∷ []) ≡ false → AllWords panel → applyAfter s a panel ≡ applyAfter s b panel)
+    → SameSheet s a b
+alike-are-equal s a b la lb alike =
+    holds-same s a b (effectAt a) (effectAt b) (holds-itself s a la) (holds-itself s b lb)
+    (λ i less. same-effect (effectAt a i) (effectAt b i) (held-words s a la i) (held-words s b lb i) (λ d small. at i d less small))
+  where
+    n : ℕ
+    n = panelWords s
+
+    room : (d : ℕ) → badPanel s (length (replicate n d) ∷ []) ≡ false
+    room d = ap (λ (m : ℕ). badPanel s (m ∷ [])) (length-replicate n d) ∙ just-enough s (length (a .keep)) (la .keep-room)
+
+    applied : (sheet : Sheet) → Lent s sheet → (i d : ℕ) → i < n → word (applyAfter s sheet (replicate n d)) i ≡ applyTo (effectAt sheet i) d
+    applied sheet lent i d less =
+        let long : n ≤ length (replicate n d) = rw (length-replicate n d) (omega arith) in
+        ap (λ (p : List ℕ). word p i) (apply-holds s sheet (effectAt sheet) (replicate n d) (holds-itself s sheet lent) (room d))
+        ∙ from-zero (effectAt sheet) (replicate n d) n i less long
+        ∙ ap (applyTo (effectAt sheet i)) (getD-replicate n i d 0 less)
+
+    at : (i d : ℕ) → i < n → d < 65536 → applyTo (effectAt a i) d ≡ applyTo (effectAt b i) d
+    at i d less small =
+        sym (applied a la i d less) ∙ ap (λ (p : List ℕ). word p i) (alike (replicate n d) (room d) (all-equal n d small)) ∙ applied b lb i d less
