@@ -130,7 +130,7 @@ module _ (s : Shape) (room : ℕ) (call : Call) (accepted : 0 ≡ callNumber s (
   label-accepted = stages _ _ (sym (stages _ _ accepted .1)) .1
 
 -- every dot of a font is 0 or 1
-face-bit : (font : List ℕ) (g : Glyph) (r j : ℕ) → faceOf font .dot g r j < 2
+pub face-bit : (font : List ℕ) (g : Glyph) (r j : ℕ) → faceOf font .dot g r j < 2
 unfolding faceOf faceFrom
 face-bit font g r j = dot-bit font g r j
 

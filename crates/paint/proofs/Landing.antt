@@ -36,14 +36,15 @@ within-strip strip column e =
     let tests = both (leb (strip .from) column) (ltb column (strip .upto)) (choice-one _ 1 e .0) in
     (leb-true (strip .from) column (tests .0), ltb-true column (strip .upto) (tests .1))
 
--- a column of two strips is a column of one
+-- the strip of a column, and so: a column of two strips is a column of one
+pub strip-of-column : (s : Shape) (k column : ℕ) → inStrip (stripOf s k) column ≡ 1 → column / s .width ≡ k
+strip-of-column s k column inside =
+    let here = within-strip (stripOf s k) column inside in
+    let next : (k + 1) * s .width ≡ k * s .width + s .width = add-mul k 1 (s .width) ∙ ap (λ (n : ℕ). k * s .width + n) (one-mul (s .width)) in
+    div-eq-of-lt-le (s .width) (here .0) (rw next (here .1))
+
 pub strips-apart : (s : Shape) (k l column : ℕ) → inStrip (stripOf s k) column ≡ 1 → inStrip (stripOf s l) column ≡ 1 → k ≡ l
-strips-apart s k l column ink inl = sym (number k (within-strip (stripOf s k) column ink)) ∙ number l (within-strip (stripOf s l) column inl)
-  where
-    number : (m : ℕ) → (m * s .width ≤ column) × (column < m * s .width + s .width) → column / s .width ≡ m
-    number m h =
-        let next : (m + 1) * s .width ≡ m * s .width + s .width = add-mul m 1 (s .width) ∙ ap (λ (n : ℕ). m * s .width + n) (one-mul (s .width)) in
-        div-eq-of-lt-le (s .width) (h .0) (rw next (h .1))
+strips-apart s k l column ink inl = sym (strip-of-column s k column ink) ∙ strip-of-column s l column inl
 
 -- dot (r, j) of a picture lands on a row and column of the panel: "Picture row r lands on panel row y - ascent + r", and its left column at the
 -- pen and the glyph's place, counted in strip columns

@@ -7,4 +7,5 @@ pub mod Labels
 pub mod Accepted
 pub mod Landing
 pub mod Demand
+pub mod Beside
 pub mod Outcomes

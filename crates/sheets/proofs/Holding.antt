@@ -34,6 +34,9 @@ pub record Holds (s : Shape) (sheet : Sheet) (e : ℕ → Effect) : Type 0 where
   pub lent : Lent s sheet
   pub effects : (i : ℕ) → i < panelWords s → effectAt sheet i ≡ e i
 
+pub holds-itself : (s : Shape) (sheet : Sheet) → Lent s sheet → Holds s sheet (effectAt sheet)
+holds-itself s sheet lent = record { lent = lent; effects = λ i less. refl }
+
 -- ---- writing effects into a sheet
 
 over-words : (n : ℕ) (f : ℕ → ℕ) (p : List ℕ) → ((i : ℕ) → f i < 65536) → AllWords p → AllWords (over n f p)

@@ -1,26 +1,31 @@
 -- Demand 3. For any list of label calls of one panel size, refused ones among them, and fonts differing from call to call:
--- a gathered sheet, applied, is painting in turn; a cut list's sheets join; two sheets are equal exactly when they treat every panel alike.
-use Prim.Native.Nat.{ℕ, zero, suc, _<_, _≤_}
+-- a gathered sheet, applied, is painting in turn; a cut list's sheets join; calls for different strips may change places; two sheets are equal
+-- exactly when they treat every panel alike.
+use Prim.Native.Nat.{ℕ, zero, suc, _+_, _<_, _≤_}
 use mathlib.Core.Path.{_≡_, refl, sym, ap, ap₂, _∙_}
-use mathlib.Core.Bool.{false}
-use mathlib.Core.List.{List, [], _∷_, _++_}
+use mathlib.Core.Bool.{Bool, true, false, cond}
+use mathlib.Core.List.{List, [], _∷_, _++_, map}
 use native.Mathlib.Nat.{zero-add}
 use native.Mathlib.Omega.{arith}
+use lib.Dec.{eqb}
 use lib.ListN.{length, take, getD, replicate, length-replicate, getD-replicate}
 use lib.Seq.{ext-getD, length-take-le, getD-take}
 use Rattle.words.specs.declared.Effect.{Effect}
 use Rattle.words.specs.Word.{word}
 use Rattle.words.specs.Effect.{identity, joinOf, applyTo, altered, OfWords}
 use Rattle.words.proofs.Effects.{identity-join, same-effect}
-use Rattle.words.proofs.Altering.{AllWords, altered-same, from-zero}
+use Rattle.words.proofs.Altering.{AllWords, altered-same, altered-length, from-zero}
 use Rattle.paint.specs.declared.Shape.{Shape}
-use Rattle.paint.specs.Panel.{panelWords, badPanel}
-use Rattle.paint.specs.Label.{Call}
+use Rattle.paint.specs.declared.Reply.{Reply}
+use Rattle.paint.specs.Panel.{panelWords, badPanel, panelNumber}
+use Rattle.paint.specs.Label.{Call, callNumber, callEffect, paintAfter, lastPen, replyFor, replyOf}
 use Rattle.paint.proofs.Accepted.{good-panel, just-enough}
-use Rattle.sheets.specs.Sheet.{Sheet, SameSheet, effectAt, freshAfter, joinAfter, applyAfter}
-use Rattle.sheets.specs.Calls.{paintAll, gatherAll}
-use Rattle.sheets.proofs.Effects.{callsEffect, calls-words, calls-cut, paint-all}
-use Rattle.sheets.proofs.Holding.{Lent, Holds, held-words, fresh-holds, gather-all-holds, join-holds, apply-holds}
+use Rattle.sheets.specs.Sheet.{Sheet, SameSheet, lengths, effectAt, freshAfter, joinAfter, applyAfter, gatherAfter, gatherReply}
+use Rattle.sheets.specs.Calls.{paintAll, gatherAll, paintReplies, gatherReplies, SameForStrips}
+use Rattle.sheets.proofs.Effects.{ownNumber, own-is, callsEffect, calls-words, calls-cut, paint-all}
+use Rattle.sheets.proofs.Exchange.{exchanged}
+use Rattle.sheets.proofs.Slices.{passed-alone}
+use Rattle.sheets.proofs.Holding.{Lent, Holds, holds-itself, held-words, both-pass, fresh-holds, gather-holds, gather-all-holds, join-holds, apply-holds}
 
 -- a list gathered into a fresh sheet: the sheet holds the list's effect
 gathered : (s : Shape) (calls : List Call) (sheet : Sheet) → Lent s sheet → Holds s (gatherAll s calls (freshAfter s sheet)) (callsEffect s calls)
@@ -60,10 +65,50 @@ cut-join s xs ys whole first second lw lf ls =
     (join-holds s _ _ (callsEffect s xs) (callsEffect s ys) (gathered s xs first lf) (gathered s ys second ls))
     (λ i less. calls-cut s xs ys i)
 
--- ---- 4. "two sheets are equal exactly when they treat every panel alike"
+-- 3. "calls for different strips may change places": the same panel and the same sheet; the replies are below
+module _ (s : Shape) (xs ys : List Call) (same : SameForStrips xs ys) where
+  pub exchange-panel : (panel : List ℕ) → badPanel s (length panel ∷ []) ≡ false → AllWords panel → paintAll s xs panel ≡ paintAll s ys panel
+  exchange-panel panel room words =
+      paint-all s xs panel room words
+      ∙ altered-same 0 (panelWords s) (callsEffect s xs) (callsEffect s ys) panel (λ j less. exchanged s xs ys same (0 + j))
+      ∙ sym (paint-all s ys panel room words)
 
-holds-itself : (s : Shape) (sheet : Sheet) → Lent s sheet → Holds s sheet (effectAt sheet)
-holds-itself s sheet lent = record { lent = lent; effects = λ i less. refl }
+  pub exchange-sheet : (a b : Sheet) → Lent s a → Lent s b → SameSheet s (gatherAll s xs (freshAfter s a)) (gatherAll s ys (freshAfter s b))
+  exchange-sheet a b la lb =
+      holds-same s _ _ (callsEffect s xs) (callsEffect s ys) (gathered s xs a la) (gathered s ys b lb) (λ i less. exchanged s xs ys same i)
+
+-- ---- replies: each is the call's own, in painting and in gathering, whatever was called before
+
+abbrev pub replyAlone : Call → Reply
+replyAlone call = replyFor (ownNumber call) (lastPen (call .font) (call .x) (call .label))
+
+reply-alone : (s : Shape) (lent : List ℕ) (call : Call) → 0 ≡ panelNumber s lent → replyOf s lent call ≡ replyAlone call
+unfolding replyOf
+reply-alone s lent call good = ap (λ (n : ℕ). replyFor n (lastPen (call .font) (call .x) (call .label))) (own-is s lent call good)
+
+still-room : (s : Shape) (call : Call) (panel : List ℕ) → length (paintAfter s call panel) ≡ length panel
+unfolding paintAfter
+still-room s call panel = by-number (eqb (callNumber s (length panel ∷ []) call) 0)
+  where
+    by-number : (t : Bool) → length (cond t (altered 0 (panelWords s) (callEffect s call) panel) panel) ≡ length panel
+    by-number true = altered-length 0 (callEffect s call) panel (panelWords s)
+    by-number false = refl
+
+pub paint-replies : (s : Shape) (calls : List Call) (panel : List ℕ) → badPanel s (length panel ∷ []) ≡ false → paintReplies s calls panel ≡ map replyAlone calls
+unfolding paintReplies
+paint-replies s [] panel room = refl
+paint-replies s (call ∷ calls) panel room =
+    ap₂ _∷_ (reply-alone s (length panel ∷ []) call (passed-alone s (length panel) room))
+    (paint-replies s calls (paintAfter s call panel) (ap (λ (n : ℕ). badPanel s (n ∷ [])) (still-room s call panel) ∙ room))
+
+pub gather-replies : (s : Shape) (calls : List Call) (sheet : Sheet) → Lent s sheet → gatherReplies s calls sheet ≡ map replyAlone calls
+unfolding gatherReplies gatherReply
+gather-replies s [] sheet lent = refl
+gather-replies s (call ∷ calls) sheet lent =
+    ap₂ _∷_ (reply-alone s (lengths sheet) call (both-pass s sheet lent))
+    (gather-replies s calls (gatherAfter s call sheet) (gather-holds s call sheet (effectAt sheet) (holds-itself s sheet lent) .lent))
+
+-- ---- 4. "two sheets are equal exactly when they treat every panel alike"
 
 first-words : (n : ℕ) (p q : List ℕ) (i : ℕ) → take n p ≡ take n q → i < n → word p i ≡ word q i
 first-words n p q i same less = sym (getD-take n p i 0 less) ∙ ap (λ (l : List ℕ). getD l i 0) same ∙ getD-take n q i 0 less

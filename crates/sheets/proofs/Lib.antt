@@ -4,6 +4,7 @@ pub mod Slices
 pub mod Done
 pub mod Gathering
 pub mod Effects
+pub mod Exchange
 pub mod Holding
 pub mod Laws
 pub mod Outcomes

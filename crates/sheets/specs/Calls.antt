@@ -1,6 +1,9 @@
 -- Lists of label calls of one panel size: what demand 3 speaks of.
-use Prim.Native.Nat.{ℕ}
+use Prim.Native.Nat.{ℕ, _≤_}
+use mathlib.Core.Path.{_≡_}
+use mathlib.Core.Bool.{cond}
 use mathlib.Core.List.{List, [], _∷_}
+use lib.Dec.{eqb}
 use lib.ListN.{length}
 use Rattle.paint.specs.declared.Shape.{Shape}
 use Rattle.paint.specs.declared.Reply.{Reply}
@@ -24,3 +27,13 @@ gatherAll s (call ∷ calls) sheet = gatherAll s calls (gatherAfter s call sheet
 unfoldable pub gatherReplies : Shape → List Call → Sheet → List Reply
 gatherReplies s [] sheet = []
 gatherReplies s (call ∷ calls) sheet = gatherReply s call sheet ∷ gatherReplies s calls (gatherAfter s call sheet)
+
+-- the calls that name strip k, in their order
+unfoldable pub ofStrip : ℕ → List Call → List Call
+ofStrip k [] = []
+ofStrip k (call ∷ calls) = cond (eqb (call .strip) k) (call ∷ ofStrip k calls) (ofStrip k calls)
+
+-- "calls for different strips may change places": two lists with the same calls for each strip in the same order. Calls that name no
+-- strip are refused, and may stand anywhere
+abbrev pub SameForStrips : List Call → List Call → Type 0
+SameForStrips xs ys = (k : ℕ) → k ≤ 31 → ofStrip k xs ≡ ofStrip k ys

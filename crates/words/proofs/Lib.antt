@@ -6,6 +6,7 @@ pub mod Lists
 pub mod Bits
 pub mod Signs
 pub mod Effects
+pub mod DotByDot
 pub mod Over
 pub mod Altering
 pub mod Outcomes
