@@ -1,6 +1,6 @@
 -- The conversion of a CU file, its refusals, and the program: the paper's "Numbers returned", 20 to 27, and its last paragraph.
 use Prim.Native.Nat.{ℕ, _+_}
-use mathlib.Core.Bool.{Bool, cond}
+use mathlib.Core.Bool.{cond}
 use mathlib.Core.List.{List, [], _∷_, _++_}
 use lib.Dec.{ltb, eqb}
 use lib.ListN.{length, drop}

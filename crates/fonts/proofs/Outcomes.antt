@@ -1,7 +1,5 @@
 -- Two outcomes that a contract permits are equal, for each public function of this crate. A part is told by the words that it holds.
 use mathlib.Core.Path.{_≡_, sym, _∙_}
-use mathlib.Core.List.{List}
-use Prim.Native.Nat.{ℕ}
 use denote.Ref.{now}
 use contract.Lifetimes.{Lfts}
 use denote.Triple.Clauses.{AtExit}

@@ -1,6 +1,6 @@
 -- What a call that passed its tests promises: the inverse of the chains of tests.
 use Prim.Native.Nat.{ℕ, _+_, _*_, _<_, _≤_}
-use mathlib.Core.Path.{_≡_, refl, sym, ap, _∙_}
+use mathlib.Core.Path.{_≡_, refl, ap, _∙_}
 use mathlib.Core.Bool.{Bool, true, false, cond, true≢false, _||_}
 use mathlib.Core.List.{[], _∷_}
 use native.Mathlib.Nat.{mul-le-mul-right, suc-mul}

@@ -1,12 +1,9 @@
 -- What a label leaves alone: every dot of a word that lies outside the label's strip.
-use Prim.Native.Nat.{ℕ, _+_, _*_, _/_, _%_, _<_, _≤_}
-use mathlib.Core.Path.{_≡_, refl, sym, ap, ap₂, _∙_}
+use Prim.Native.Nat.{ℕ, _+_, _*_, _/_, _%_, _<_}
+use mathlib.Core.Path.{_≡_, refl, _∙_}
 use mathlib.Core.List.{List, [], _∷_}
-use native.Mathlib.Omega.{arith}
 use Rattle.words.specs.declared.Mode.{Mode}
-use Rattle.words.specs.Word.{bitOf}
-use Rattle.words.specs.Place.{placeOf}
-use Rattle.words.specs.Effect.{effectOf, modeOf, Leaves}
+use Rattle.words.specs.Effect.{Leaves}
 use Rattle.words.proofs.Bits.{bit-word-of}
 use Rattle.words.proofs.BitLaws.{on-digit}
 use Rattle.words.proofs.Effects.{mode-leaves}
@@ -18,9 +15,9 @@ use Rattle.paint.specs.declared.Strip.{Strip}
 use Rattle.paint.specs.declared.Pen.{Pen}
 use Rattle.paint.specs.Panel.{stripOf}
 use Rattle.paint.specs.Label.{Call, callEffect}
-use Rattle.paint.specs.Pen.{penAt, penAfter, mark, maskFrom, maskAt, pictureEffect, labelEffect, inStrip}
+use Rattle.paint.specs.Pen.{penAfter, mark, maskFrom, maskAt, pictureEffect, labelEffect, inStrip}
 use Rattle.paint.proofs.Marks.{mark-bit, mark-beside, mask-lt, in-strip-bit}
-use Rattle.paint.proofs.Landing.{within-strip, strip-of-column}
+use Rattle.paint.proofs.Landing.{strip-of-column}
 use Rattle.paint.proofs.Demand.{face-bit}
 
 -- the column of the panel that dot j of word i lies on

@@ -4,7 +4,7 @@ use mathlib.Core.Path.{_≡_, refl, sym, ap, ap₂, _∙_}
 use mathlib.Core.Bool.{Bool, true, false, cond}
 use mathlib.Core.List.{List, [], _∷_}
 use native.Mathlib.Omega.{arith}
-use lib.Bits.{bitAnd, bitXor, differ}
+use lib.Bits.{bitAnd, differ}
 use lib.ListN.{length}
 use borrow.Author.Tests.{le-ltb, ne-eqb}
 use Rattle.words.specs.declared.Effect.{Effect}
@@ -22,7 +22,7 @@ use Rattle.words.proofs.Effects.{apply-identity, apply-join, mode-words, join-w
 use Rattle.words.proofs.Altering.{AllWords, altered-past, from-zero, apply-lt}
 use Rattle.fonts.specs.declared.Glyph.{Glyph}
 use Rattle.fonts.specs.Reading.{fontNumber}
-use Rattle.fonts.specs.Face.{Face, faceOf, faceFrom, dotOf}
+use Rattle.fonts.specs.Face.{Face, faceOf, faceFrom}
 use Rattle.fonts.proofs.Dots.{dot-bit}
 use Rattle.paint.specs.declared.Shape.{Shape}
 use Rattle.paint.specs.declared.Strip.{Strip}

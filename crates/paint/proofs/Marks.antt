@@ -1,6 +1,6 @@
 -- The marks of a picture on a word of the panel: the dots of one row, shifted to their place and clipped to the strip.
 use Prim.Native.Nat.{ℕ, _+_, _-_, _*_, _/_, _^_, _<_, _≤_, min}
-use mathlib.Core.Path.{_≡_, refl, sym, ap, ap₂, _∙_}
+use mathlib.Core.Path.{_≡_, refl, sym, ap, _∙_}
 use mathlib.Core.Bool.{Bool, true, false, cond, _&&_}
 use native.Mathlib.Nat.{zero-add, zero-mul, one-mul, mul-zero}
 use native.Mathlib.Omega.{arith}

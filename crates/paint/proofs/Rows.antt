@@ -1,6 +1,6 @@
 -- The words of one row of the panel, and the rows of the panel, under a picture.
 use Prim.Native.Nat.{ℕ, _+_, _-_, _*_, _/_, _%_, _<_, _≤_, min}
-use mathlib.Core.Path.{_≡_, refl, sym, ap, ap₂, _∙_}
+use mathlib.Core.Path.{_≡_, sym, ap, ap₂, _∙_}
 use mathlib.Core.List.{List}
 use native.Mathlib.Nat.{mul-le-mul, mul-add-div-right, mul-add-mod-self-right, div-eq-of-lt, mod-eq-of-lt, add-zero, zero-add, add-assoc, add-mul, suc-mul, mul-comm, add-sub-of-le, div-lt-iff-lt-mul, le-div-iff-mul-le, mul-le-mul-right}
 use native.Mathlib.Numerals.{add-one}
@@ -15,7 +15,7 @@ use Rattle.fonts.specs.declared.Glyph.{Glyph}
 use Rattle.paint.specs.declared.Shape.{Shape}
 use Rattle.paint.specs.declared.Strip.{Strip}
 use Rattle.paint.specs.declared.Pen.{Pen}
-use Rattle.paint.specs.Pen.{inStrip, maskFrom, maskAt, pictureEffect}
+use Rattle.paint.specs.Pen.{maskFrom, maskAt, pictureEffect}
 use Rattle.paint.proofs.Marks.{mask-above, mask-under, mask-beside, mask-lt, strip-right-of, strip-left-of}
 
 -- a row times the words of a row, for a panel within its limits

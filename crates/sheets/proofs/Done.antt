@@ -1,6 +1,6 @@
 -- What a call on sheets leaves in lent memory, once its number is known.
 use Prim.Native.Nat.{ℕ}
-use mathlib.Core.Path.{_≡_, refl}
+use mathlib.Core.Path.{_≡_}
 use mathlib.Core.List.{List}
 use borrow.Author.Tests.{ne-eqb}
 use Rattle.words.specs.Effect.{identity, altered, joinOf}

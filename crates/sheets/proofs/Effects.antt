@@ -1,18 +1,17 @@
 -- What a list of calls does to a word, as one effect. Painting the list applies it and gathering the list joins it, so the laws of demand 3 are
 -- laws of effects.
-use Prim.Native.Nat.{ℕ, zero, suc, _+_, _-_, _*_, _/_, _%_, _<_, _≤_}
-use mathlib.Core.Path.{_≡_, refl, sym, ap, ap₂, _∙_}
+use Prim.Native.Nat.{ℕ, _+_, _-_}
+use mathlib.Core.Path.{_≡_, refl, sym, ap, _∙_}
 use mathlib.Core.Bool.{Bool, true, false, cond}
 use mathlib.Core.List.{List, [], _∷_, _++_}
 use native.Mathlib.Omega.{arith}
 use lib.Dec.{eqb}
 use lib.ListN.{length}
-use borrow.Author.Tests.{eq-eqb, ne-eqb, eqb-true, eqb-false}
 use Rattle.words.specs.declared.Effect.{Effect}
 use Rattle.words.specs.Refusal.{orElse}
 use Rattle.words.specs.Word.{word}
-use Rattle.words.specs.Effect.{identity, joinOf, altered, OfWords, modeOf}
-use Rattle.words.proofs.Effects.{join-assoc, identity-join, join-identity, join-words, mode-words}
+use Rattle.words.specs.Effect.{identity, joinOf, altered, OfWords}
+use Rattle.words.proofs.Effects.{join-assoc, identity-join, join-words}
 use Rattle.words.proofs.Altering.{AllWords, altered-idle, altered-twice, altered-length, altered-words}
 use Rattle.fonts.specs.Reading.{fontNumber}
 use Rattle.paint.specs.declared.Shape.{Shape}

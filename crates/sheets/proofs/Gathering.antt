@@ -1,6 +1,6 @@
 -- Gathering by painting: a label's effect joined onto (keep, flip) paints flip by its mode, and clears in keep what the mode does not keep.
 use Prim.Native.Nat.{ℕ, zero, suc, _+_, _-_, _<_, _≤_}
-use mathlib.Core.Path.{_≡_, refl, sym, ap, ap₂, _∙_}
+use mathlib.Core.Path.{_≡_, refl, ap, ap₂, _∙_}
 use mathlib.Core.Bool.{Bool, true, false, true≢false, false≢true, _||_}
 use mathlib.Core.List.{List, [], _∷_}
 use native.Mathlib.Nat.{zero-add}
@@ -12,7 +12,6 @@ use lib.ListN.{length, set}
 use borrow.Author.Tests.{ne-eqb}
 use lib.Seq.{set-getD}
 use Rattle.words.specs.declared.Effect.{Effect}
-use Rattle.words.specs.declared.Mode.{Mode}
 use Rattle.words.specs.declared.Mode.the-variants.{Paint, Erase, Invert}
 use Rattle.words.specs.Word.{word, over}
 use Rattle.words.specs.Refusal.{orElse}

@@ -1,6 +1,6 @@
 -- A sheet holds effects: its slices are long enough, its words are words, and its first R × H effects are those. Each operation on sheets is told
 -- by the effects that it makes of those that its sheets hold.
-use Prim.Native.Nat.{ℕ, zero, suc, _<_, _≤_}
+use Prim.Native.Nat.{ℕ, zero, suc, _<_}
 use mathlib.Core.Path.{_≡_, refl, sym, ap, ap₂, _∙_}
 use mathlib.Core.Bool.{Bool, true, false, cond}
 use mathlib.Core.List.{List, [], _∷_}
@@ -9,7 +9,7 @@ use native.Mathlib.Omega.{arith}
 use lib.Dec.{eqb}
 use lib.ListN.{length}
 use Rattle.words.specs.declared.Effect.{Effect}
-use Rattle.words.specs.Word.{word, over}
+use Rattle.words.specs.Word.{over}
 use Rattle.words.specs.Effect.{identity, joinOf, altered, OfWords}
 use Rattle.words.proofs.Effects.{join-assoc, join-identity, join-words}
 use Rattle.words.proofs.Over.{over-at, over-length}
@@ -22,7 +22,7 @@ use Rattle.paint.proofs.Demand.{call-words}
 use Rattle.sheets.specs.Sheet.{Sheet, lengths, effectAt, written, freshNumber, freshAfter, joinNumber, joinAfter, applyNumber, applyAfter, gatherAfter}
 use Rattle.sheets.specs.Calls.{gatherAll}
 use Rattle.sheets.proofs.Slices.{passed-alone, passed-by-first}
-use Rattle.sheets.proofs.Effects.{ownNumber, stepEffect, callsEffect, own-is, step-words, calls-words}
+use Rattle.sheets.proofs.Effects.{ownNumber, stepEffect, callsEffect, own-is, step-words}
 
 pub record Lent (s : Shape) (sheet : Sheet) : Type 0 where
   pub keep-room : badPanel s (length (sheet .keep) ∷ []) ≡ false

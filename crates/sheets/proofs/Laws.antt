@@ -12,7 +12,7 @@ use lib.ListN.{length, take, getD, replicate, length-replicate, getD-replicate}
 use lib.Seq.{ext-getD, length-take-le, getD-take}
 use Rattle.words.specs.declared.Effect.{Effect}
 use Rattle.words.specs.Word.{word}
-use Rattle.words.specs.Effect.{identity, joinOf, applyTo, altered, OfWords}
+use Rattle.words.specs.Effect.{identity, joinOf, applyTo, altered}
 use Rattle.words.proofs.Effects.{identity-join, same-effect}
 use Rattle.words.proofs.Altering.{AllWords, altered-same, altered-length, from-zero}
 use Rattle.paint.specs.declared.Shape.{Shape}

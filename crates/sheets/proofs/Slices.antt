@@ -1,6 +1,6 @@
 -- Refusal 8 of several lent slices, one slice after the other.
 use Prim.Native.Nat.{ℕ}
-use mathlib.Core.Path.{_≡_, refl, sym, _∙_}
+use mathlib.Core.Path.{_≡_, refl}
 use mathlib.Core.Bool.{Bool, true, false, cond, true≢false, false≢true, _||_}
 use mathlib.Core.List.{List, [], _∷_}
 use lib.Dec.{ltb}

@@ -1,12 +1,10 @@
 -- The worked cases: the paper's "A small font and what it does", C1 to C10, and a second table for an error that those let pass.
-use Prim.Native.Nat.{ℕ, _*_}
-use mathlib.Core.Bool.{cond}
+use Prim.Native.Nat.{ℕ}
 use mathlib.Core.List.{List, [], _∷_}
-use lib.Dec.{eqb}
 use lib.IntN.{ℤ, pos, negsuc}
-use lib.ListN.{length, replicate, set}
+use lib.ListN.{replicate, set}
 use Rattle.words.specs.Word.{bytesOf}
-use Rattle.convert.specs.Conversion.{programNumber, programOutput}
+use Rattle.convert.specs.Conversion.{programOutput}
 use Rattle.paint.specs.declared.Shape.{Shape}
 use Rattle.paint.specs.declared.Reply.{Reply}
 use Rattle.paint.specs.declared.Reply.the-variants.{Done, Refused}

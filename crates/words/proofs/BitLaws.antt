@@ -1,5 +1,5 @@
 -- The laws of AND and XOR that effects rest on. Each holds of the digits 0 and 1, by computing, and so of all numbers.
-use Prim.Native.Nat.{ℕ, zero, suc, _-_, _<_, _%_, min}
+use Prim.Native.Nat.{ℕ, zero, suc, _-_, _<_, min}
 use mathlib.Core.Path.{_≡_, refl, sym, ap, _∙_}
 use native.Mathlib.Nat.{mod-eq-of-lt}
 use native.Mathlib.Omega.{arith}

@@ -2,7 +2,6 @@
 use Prim.Native.Nat.{ℕ, _<_, min}
 use mathlib.Core.Path.{_≡_, refl, sym, ap, ap₂, _∙_}
 use native.Mathlib.Nat.{zero-min}
-use native.Mathlib.Omega.{arith}
 use lib.Bits.{bitAnd, differ}
 use Rattle.words.specs.declared.Effect.{Effect}
 use Rattle.words.specs.Word.{bitOf}

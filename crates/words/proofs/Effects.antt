@@ -1,7 +1,7 @@
 -- The laws of effects. They are what demand 3 rests on: effects are a monoid that acts on words, an effect is told by what it does, and
 -- effects that touch no dot in common commute.
-use Prim.Native.Nat.{ℕ, zero, suc, _-_, _<_, min}
-use mathlib.Core.Path.{_≡_, refl, sym, ap, ap₂, _∙_}
+use Prim.Native.Nat.{ℕ, _-_, _<_, min}
+use mathlib.Core.Path.{_≡_, refl, sym, ap, _∙_}
 use mathlib.Core.Logic.{_⊎_, inl, inr, ⊎-elim}
 use native.Mathlib.Nat.{zero-min}
 use native.Mathlib.Omega.{arith}

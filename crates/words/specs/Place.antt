@@ -1,6 +1,6 @@
 -- Places with a sign. A place is counted from 2048 dots below zero, so that every place a call can name is a plain number:
 -- x and y are at least -1024, FBBox is at least -255, and a pen never goes left.
-use Prim.Native.Nat.{ℕ, suc, _+_, _-_, _%_}
+use Prim.Native.Nat.{ℕ, _+_, _-_, _%_}
 use mathlib.Core.Bool.{Bool, cond}
 use lib.Dec.{ltb}
 use lib.IntN.{ℤ, pos, negsuc, subℕ}

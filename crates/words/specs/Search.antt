@@ -1,6 +1,6 @@
 -- Looking through the numbers below n for one that passes a test.
 use Prim.Native.Nat.{ℕ, zero, suc, _+_}
-use mathlib.Core.Bool.{Bool, true, false, cond, _||_}
+use mathlib.Core.Bool.{Bool, false, cond, _||_}
 use lib.Dec.{ltb}
 
 -- some number below n passes
