@@ -1,22 +1,16 @@
 // The calls that measure and paint a label: measure, paint.
 use crate::list::Line;
-use crate::list::VALUES;
 use crate::list::least;
 use crate::names;
-use crate::registers::LENT;
-use crate::registers::narrow;
+use crate::registers::Held;
+use crate::registers::lent_words;
 use crate::text::TEXT;
 use crate::text::put;
 use crate::text::put_name;
 use crate::text::put_number;
 use crate::text::put_signed;
-use crate::text::start;
 use paint::Reply;
 use paint::Shape;
-ghost use Prim.Native.Nat.{_≤_};
-
-// The most bytes that a label in a list has.
-const LABEL: usize = 1_000;
 
 fn refusal(reply: Reply) -> u32 {
     match reply {
@@ -49,7 +43,7 @@ fn substitutes(reply: Reply) -> u32 {
 }
 
 // The whole answer of a call on a label.
-fn put_reply(text: &mut [u8; TEXT], at: usize, line: Line, reply: Reply) -> usize {
+pub fn put_reply(text: &mut [u8; TEXT], at: usize, line: Line, reply: Reply) -> usize {
     let at = put_name(text, at, line.command);
     let at = put_number(text, at, refusal(reply) as u64);
     let at = put_signed(text, at, last_pen(reply));
@@ -57,10 +51,9 @@ fn put_reply(text: &mut [u8; TEXT], at: usize, line: Line, reply: Reply) -> usiz
     put(text, at, b'\n')
 }
 
-// The shape of a panel, from the numbers of a line, the first of them number k.
-fn shape(line: Line, k: usize) -> Shape
-    requires { ⌜ k ≤ 5 ⌝ }
-{
+// The shape of a panel, from the numbers of a line, the first of them number `first`, which is at most 5.
+pub fn shape(line: Line, first: usize) -> Shape {
+    let k = least(first, 5);
     Shape {
         rowwords: line.number(k),
         rows: line.number(k + 1),
@@ -85,30 +78,22 @@ fn paint(line: Line, font: &[u16], label: &[u8], panel: &mut [u16]) -> Reply {
     )
 }
 
-// Paints on a panel that is the first `count` words lent.
-fn paint_first(line: Line, font: &[u16], label: &[u8], lent: &mut [u16], count: usize) -> Reply {
-    let upto = least(count, lent.len());
-    paint(line, font, label, &mut lent[0..upto])
-}
-
-// Answers a call of this file. The bytes of its label are the line's values, and the panel is the first `panel` words lent.
+// Answers a call of this file.
 pub fn answer(
     line: Line,
-    values: &[u16; VALUES],
     font: &[u16],
-    lent: &mut [u16; LENT],
-    panel: usize,
+    label: &[u8],
+    held: Held,
+    lent: &mut [u16],
     text: &mut [u8; TEXT],
     at: usize,
 ) -> usize {
-    let mut bytes = [0u8; LABEL];
-    let count = narrow(values, line.values, &mut bytes);
-    let label = start(&bytes, count);
     if line.command == names::MEASURE {
         return put_reply(text, at, line, measure(line, font, label));
     }
     if line.command == names::PAINT {
-        return put_reply(text, at, line, paint_first(line, font, label, lent, panel));
+        let panel = lent_words(lent, held, names::PANEL);
+        return put_reply(text, at, line, paint(line, font, label, panel));
     }
     at
 }

@@ -206,6 +206,7 @@ fn numbers_before(command: u64) -> usize {
         names::KEEP1 | names::FLIP1 | names::KEEP2 | names::FLIP2 => 0,
         names::MEASURE => 1,
         names::PAINT => 7,
+        names::GATHER => 8,
         _ => 1000,
     }
 }

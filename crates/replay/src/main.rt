@@ -4,6 +4,7 @@ mod label_calls;
 mod list;
 mod names;
 mod registers;
+mod sheet_calls;
 mod text;
 
 use list::INPUT;
@@ -16,6 +17,9 @@ use registers::Held;
 use registers::LENT;
 use registers::SHEETS;
 use text::TEXT;
+
+// The most bytes that a label in a list has.
+const LABEL: usize = 1_000;
 
 // What the registers hold, and how much text waits to be written.
 struct State {
@@ -49,9 +53,24 @@ fn perform(
         text,
         state.at,
     );
-    let font = registers::font(files, held);
+    let font = registers::held_words(files, held, names::FONT);
     let at = font_calls::answer(line, font, text, at);
-    let at = label_calls::answer(line, values, font, lent, registers::panel(held), text, at);
+    let mut codes = [0u8; LABEL];
+    let count = registers::narrow(values, line.values, &mut codes);
+    let label = text::start(&codes, count);
+    let at = label_calls::answer(line, font, label, held, lent, text, at);
+    let at = sheet_calls::answer(
+        line,
+        values,
+        font,
+        label,
+        held,
+        lent,
+        keeps,
+        flips,
+        text,
+        at,
+    );
     State { held, at }
 }
 

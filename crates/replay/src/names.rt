@@ -39,6 +39,15 @@ pub const MEASURE: u64 = 13_05_01_19_21_18_05;
 
 pub const PAINT: u64 = 16_01_09_14_20;
 
+// fresh, gather, join, apply
+pub const FRESH: u64 = 06_18_05_19_08;
+
+pub const GATHER: u64 = 07_01_20_08_05_18;
+
+pub const JOIN: u64 = 10_15_09_14;
+
+pub const APPLY: u64 = 01_16_16_12_25;
+
 fn letter(b: u8) -> u64
     ensures { λ r. ⌜ r ≤ 255 ⌝ }
 {
@@ -54,6 +63,22 @@ pub fn extended(name: u64, b: u8) -> u64 {
         return name;
     }
     name * 100 + letter(b)
+}
+
+// The register that is a sheet's keep.
+pub fn keep_of(sheet: u32) -> u64 {
+    if sheet == 2 {
+        return KEEP2;
+    }
+    KEEP1
+}
+
+// The register that is a sheet's flip.
+pub fn flip_of(sheet: u32) -> u64 {
+    if sheet == 2 {
+        return FLIP2;
+    }
+    FLIP1
 }
 
 // The character that two digits of a name stand for.

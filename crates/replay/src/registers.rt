@@ -89,7 +89,7 @@ impl Held {
 }
 
 // Copies the first `count` words to a place of another list, as far as there is room, and answers how many.
-fn copy(from: &[u16], count: usize, to: &mut [u16], place: usize, room: usize) -> usize {
+pub fn copy(from: &[u16], count: usize, to: &mut [u16], place: usize, room: usize) -> usize {
     if to.len() < place {
         return 0;
     }
@@ -198,13 +198,16 @@ fn put_bytes(
     put_list(text, at, words::part(values, 0, spread), 2)
 }
 
-// The words of the font.
-pub fn font(files: &[u16; FILES], held: Held) -> &[u16] {
-    let r = Register::named(names::FONT);
-    words::part(files, r.from, held.of(r))
+// The words of a register, as a part of the array that it stands in.
+pub fn held_words(array: &[u16], held: Held, name: u64) -> &[u16] {
+    let r = Register::named(name);
+    words::part(array, r.from, held.of(r))
 }
 
-// How many words the panel has; they are the first of `lent`.
-pub fn panel(held: Held) -> usize {
-    held.of(Register::named(names::PANEL))
+// The same, for a call that may alter them.
+pub fn lent_words(array: &mut [u16], held: Held, name: u64) -> &mut [u16] {
+    let r = Register::named(name);
+    let from = least(r.from, array.len());
+    let upto = from + least(held.of(r), array.len() - from);
+    &mut array[from..upto]
 }

@@ -1,0 +1,96 @@
+// The calls on sheets: fresh, gather, join, apply.
+use crate::label_calls::put_reply;
+use crate::label_calls::shape;
+use crate::list::Line;
+use crate::list::VALUES;
+use crate::names;
+use crate::registers;
+use crate::registers::Held;
+use crate::text::TEXT;
+use crate::text::put;
+use crate::text::put_name;
+use crate::text::put_number;
+use paint::Reply;
+
+// The most words that a slice of a sheet has.
+const SLICE: usize = 40_000;
+
+// The whole answer of a call that answers the number alone.
+fn put_refusal(text: &mut [u8; TEXT], at: usize, line: Line, number: u32) -> usize {
+    let at = put_name(text, at, line.command);
+    let at = put_number(text, at, number as u64);
+    put(text, at, b'\n')
+}
+
+fn gather(line: Line, font: &[u16], label: &[u8], keep: &mut [u16], flip: &mut [u16]) -> Reply {
+    sheets::gather(
+        font,
+        shape(line, 1),
+        line.number(4),
+        line.signed(5),
+        line.signed(6),
+        line.number(7),
+        label,
+        keep,
+        flip,
+    )
+}
+
+// Joins sheet 2 onto sheet 1. Two parts of one array cannot be lent at once, so sheet 2 is copied first, to where a line's values would stand.
+fn join(
+    line: Line,
+    values: &mut [u16; VALUES],
+    held: Held,
+    keeps: &mut [u16],
+    flips: &mut [u16],
+) -> u32 {
+    let keep = registers::held_words(keeps, held, names::KEEP2);
+    let kept = registers::copy(keep, SLICE, values, 0, SLICE);
+    let flip = registers::held_words(flips, held, names::FLIP2);
+    let flipped = registers::copy(flip, SLICE, values, SLICE, SLICE);
+    let copied: &[u16] = values;
+    sheets::join(
+        shape(line, 0),
+        registers::lent_words(keeps, held, names::KEEP1),
+        registers::lent_words(flips, held, names::FLIP1),
+        words::part(copied, 0, kept),
+        words::part(copied, SLICE, flipped),
+    )
+}
+
+// Answers a call of this file.
+pub fn answer(
+    line: Line,
+    values: &mut [u16; VALUES],
+    font: &[u16],
+    label: &[u8],
+    held: Held,
+    lent: &mut [u16],
+    keeps: &mut [u16],
+    flips: &mut [u16],
+    text: &mut [u8; TEXT],
+    at: usize,
+) -> usize {
+    if line.command == names::JOIN {
+        return put_refusal(text, at, line, join(line, values, held, keeps, flips));
+    }
+    let sheet = line.number(0);
+    let keep = registers::lent_words(keeps, held, names::keep_of(sheet));
+    let flip = registers::lent_words(flips, held, names::flip_of(sheet));
+    let panel = registers::lent_words(lent, held, names::PANEL);
+    if line.command == names::FRESH {
+        return put_refusal(text, at, line, sheets::fresh(shape(line, 1), keep, flip));
+    }
+    if line.command == names::GATHER {
+        return put_reply(text, at, line, gather(line, font, label, keep, flip));
+    }
+    if line.command == names::APPLY {
+        return put_refusal(
+            text,
+            at,
+            line,
+            sheets::apply(shape(line, 1), keep, flip, panel),
+        );
+    }
+    at
+}
