@@ -1,5 +1,6 @@
 //! Lists made at random from a seed, the same on every platform.
 
+pub mod call_lists;
 pub mod cu_files;
 mod cu_scenes;
 pub mod font_files;
@@ -8,7 +9,7 @@ pub mod label_calls;
 mod label_scenes;
 pub mod random;
 mod scene;
-mod sheet_scenes;
+pub mod sheet_scenes;
 
 use std::io::{self, Write};
 

@@ -16,6 +16,9 @@ pub const LENT: usize = 110_000;
 
 pub const SHEETS: usize = 80_000;
 
+// The most words that a slice of a sheet has.
+pub const SLICE: usize = 40_000;
+
 pub const BYTES: usize = 140_000;
 
 enum Array {
@@ -56,10 +59,10 @@ impl Register {
             names::CU => Register::new(Array::Files, 70_000, 530_000, 1),
             names::PANEL => Register::new(Array::Lent, 0, 40_000, 2),
             names::OUT => Register::new(Array::Lent, 40_000, 70_000, 3),
-            names::KEEP1 => Register::new(Array::Keeps, 0, 40_000, 4),
-            names::KEEP2 => Register::new(Array::Keeps, 40_000, 40_000, 5),
-            names::FLIP1 => Register::new(Array::Flips, 0, 40_000, 6),
-            names::FLIP2 => Register::new(Array::Flips, 40_000, 40_000, 7),
+            names::KEEP1 => Register::new(Array::Keeps, 0, SLICE, 4),
+            names::KEEP2 => Register::new(Array::Keeps, SLICE, SLICE, 5),
+            names::FLIP1 => Register::new(Array::Flips, 0, SLICE, 6),
+            names::FLIP2 => Register::new(Array::Flips, SLICE, SLICE, 7),
             names::FILE => Register::new(Array::Bytes, 0, BYTES, 8),
             _ => Register::new(Array::Nowhere, 0, 0, 9),
         }

@@ -6,14 +6,12 @@ use crate::list::VALUES;
 use crate::names;
 use crate::registers;
 use crate::registers::Held;
+use crate::registers::SLICE;
 use crate::text::TEXT;
 use crate::text::put;
 use crate::text::put_name;
 use crate::text::put_number;
 use paint::Reply;
-
-// The most words that a slice of a sheet has.
-const SLICE: usize = 40_000;
 
 // The whole answer of a call that answers the number alone.
 fn put_refusal(text: &mut [u8; TEXT], at: usize, line: Line, number: u32) -> usize {
@@ -36,7 +34,8 @@ fn gather(line: Line, font: &[u16], label: &[u8], keep: &mut [u16], flip: &mut [
     )
 }
 
-// Joins sheet 2 onto sheet 1. Two parts of one array cannot be lent at once, so sheet 2 is copied first, to where a line's values would stand.
+// Joins sheet 2 onto sheet 1. Two parts of one array cannot be lent at once where one may be altered, so sheet 2 is first copied to where
+// a line's values would stand.
 fn join(
     line: Line,
     values: &mut [u16; VALUES],

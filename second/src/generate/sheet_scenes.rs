@@ -1,5 +1,8 @@
 //! Scenes for sheets: one list of calls gathered, painted, cut and exchanged.
 
+use std::rc::Rc;
+
+use super::call_lists::{exchanged, random_calls, FontCall};
 use super::font_files::{good_font, refused_font, MadeFont};
 use super::label_calls::{
     bad_shape, good_call, good_shape, good_slice, long_slice, short_slice, small_shape, spoil,
@@ -10,6 +13,11 @@ use super::Scenes;
 use crate::label::Call;
 use crate::panel::Shape;
 
+/// Between these two lines of a scene every keep that is shown is the same, and so is every
+/// flip and every panel.
+pub const ONE_LIST: &str = "# one list of calls";
+pub const ONE_LIST_ENDS: &str = "# other calls";
+
 const SHEET_SLICES: [&str; 4] = ["keep1", "flip1", "keep2", "flip2"];
 
 pub struct SheetScenes;
@@ -17,16 +25,14 @@ pub struct SheetScenes;
 impl Scenes for SheetScenes {
     fn next(&mut self, random: &mut Random, number: usize) -> Scene {
         let shape = scene_shape(random);
-        let font = scene_font(random, number);
+        let font = Rc::new(scene_font(random, number));
         let mut scene = Scene::default();
+        let calls = random_calls(random, shape, Rc::clone(&font));
+        one_list(random, shape, &calls, &mut scene);
         scene.set("font", &font.words);
-        let calls = random_calls(random, shape, &font);
-        gather_and_paint(random, shape, &calls, &mut scene);
-        cut_and_join(random, shape, &calls, &mut scene);
-        match number % 4 {
-            0 => exchange(random, shape, &font, &mut scene),
-            1 => refused_calls(random, shape, &font, &mut scene),
-            2 => arbitrary_sheets(random, shape, &mut scene),
+        match number % 3 {
+            0 => refused_calls(random, shape, &font, &mut scene),
+            1 => arbitrary_sheets(random, shape, &mut scene),
             _ => gather_refused(random, shape, &font, &mut scene),
         }
         scene
@@ -51,71 +57,77 @@ fn scene_font(random: &mut Random, number: usize) -> MadeFont {
     }
 }
 
-/// Calls in mixed modes for one shape, with refused ones among them.
-fn random_calls(random: &mut Random, shape: Shape, font: &MadeFont) -> Vec<Call> {
-    let mut calls = Vec::new();
-    for _ in 0..random.between(1, 6) {
-        let mut call = good_call(random, shape, font);
-        if random.one_in(2) {
-            call.strip = 0;
-        }
-        if random.one_in(6) {
-            spoil(random, &mut call, font);
-        }
-        calls.push(call);
-    }
-    calls
-}
-
-/// The sheet applied and the calls painted in turn leave equal panels.
-fn gather_and_paint(random: &mut Random, shape: Shape, calls: &[Call], scene: &mut Scene) {
-    let panel = good_slice(random, shape);
-    gather_onto_fresh(random, 1, shape, calls, scene);
-    scene.show(&["keep1", "flip1"]);
-    scene.set("panel", &panel);
-    scene.apply(1, shape);
-    scene.show(&["panel"]);
-    scene.set("panel", &panel);
-    for call in calls {
-        scene.paint(call);
-    }
-    scene.show(&["panel"]);
-}
-
-/// The sheets of the two parts join to the sheet of the whole list.
-fn cut_and_join(random: &mut Random, shape: Shape, calls: &[Call], scene: &mut Scene) {
-    let cut = random.below(calls.len() + 1);
-    gather_onto_fresh(random, 1, shape, &calls[..cut], scene);
-    gather_onto_fresh(random, 2, shape, &calls[cut..], scene);
-    scene.join(shape);
-    scene.show(&SHEET_SLICES);
-}
-
-fn gather_onto_fresh(
-    random: &mut Random,
-    sheet: usize,
+/// The slices that a list of calls begins with.
+struct Start {
     shape: Shape,
-    calls: &[Call],
-    scene: &mut Scene,
-) {
-    scene.set(&format!("keep{sheet}"), &good_slice(random, shape));
-    scene.set(&format!("flip{sheet}"), &good_slice(random, shape));
-    scene.fresh(sheet, shape);
-    for call in calls {
-        scene.gather(sheet, call);
+    keep: Vec<u16>,
+    flip: Vec<u16>,
+    panel: Vec<u16>,
+}
+
+impl Start {
+    fn random(random: &mut Random, shape: Shape) -> Start {
+        Start {
+            shape,
+            keep: good_slice(random, shape),
+            flip: good_slice(random, shape),
+            panel: good_slice(random, shape),
+        }
+    }
+
+    fn gather(&self, sheet: usize, calls: &[FontCall], scene: &mut Scene) {
+        scene.set(&format!("keep{sheet}"), &self.keep);
+        scene.set(&format!("flip{sheet}"), &self.flip);
+        scene.fresh(sheet, self.shape);
+        with_fonts(calls, scene, |scene, call| scene.gather(sheet, call));
+    }
+
+    fn paint(&self, calls: &[FontCall], scene: &mut Scene) {
+        scene.set("panel", &self.panel);
+        with_fonts(calls, scene, |scene, call| scene.paint(call));
+        scene.show(&["panel"]);
+    }
+
+    fn apply(&self, sheet: usize, scene: &mut Scene) {
+        scene.set("panel", &self.panel);
+        scene.apply(sheet, self.shape);
+        scene.show(&["panel"]);
     }
 }
 
-/// Two calls for different strips may be exchanged.
-fn exchange(random: &mut Random, shape: Shape, font: &MadeFont, scene: &mut Scene) {
-    let mut first = good_call(random, shape, font);
-    let mut second = good_call(random, shape, font);
-    first.strip = random.between(0, 30);
-    second.strip = random.between(first.strip + 1, 31);
-    let exchanged = [second.clone(), first.clone()];
-    gather_onto_fresh(random, 1, shape, &[first, second], scene);
-    gather_onto_fresh(random, 2, shape, &exchanged, scene);
-    scene.show(&SHEET_SLICES);
+/// Sets the font before each call that has another than the one before it.
+fn with_fonts(calls: &[FontCall], scene: &mut Scene, perform: impl Fn(&mut Scene, &Call)) {
+    let mut before: Option<&Rc<MadeFont>> = None;
+    for FontCall { font, call } in calls {
+        if !before.is_some_and(|before| Rc::ptr_eq(before, font)) {
+            scene.set("font", &font.words);
+        }
+        perform(scene, call);
+        before = Some(font);
+    }
+}
+
+/// All ways to perform a list of calls: gathered and applied, painted, both with its calls
+/// exchanged, and gathered in two parts, whose sheets are joined, for every cut.
+fn one_list(random: &mut Random, shape: Shape, calls: &[FontCall], scene: &mut Scene) {
+    let start = Start::random(random, shape);
+    let exchanged = exchanged(random, calls);
+    scene.line(ONE_LIST);
+    start.gather(1, calls, scene);
+    scene.show(&["keep1", "flip1"]);
+    start.apply(1, scene);
+    start.paint(calls, scene);
+    start.gather(2, &exchanged, scene);
+    scene.show(&["keep2", "flip2"]);
+    start.paint(&exchanged, scene);
+    for cut in 0..=calls.len() {
+        start.gather(1, &calls[..cut], scene);
+        Start::random(random, shape).gather(2, &calls[cut..], scene);
+        scene.join(shape);
+        scene.show(&["keep1", "flip1"]);
+    }
+    scene.line(ONE_LIST_ENDS);
+    scene.show(&["keep2", "flip2"]);
 }
 
 /// Fresh, join and apply with bad shapes, for which the slices may be long enough, and with

@@ -1,7 +1,10 @@
 //! Generated lists are lists, and they reach every refusal.
 
+use std::collections::BTreeSet;
+
 use super::answers_to;
 use crate::coverage::Coverage;
+use crate::generate::sheet_scenes::{ONE_LIST, ONE_LIST_ENDS};
 use crate::generate::{write_list, Kind};
 
 fn generated(kind: Kind, seed: u64, count: usize) -> String {
@@ -58,5 +61,28 @@ fn every_refusal_appears_and_no_other() {
     ];
     for (kind, numbers) in expected {
         assert_eq!(coverage.numbers(kind), numbers, "{kind}");
+    }
+}
+
+/// What all registers whose name begins so were shown to hold.
+fn shown<'a>(answers: &'a str, name: &str) -> BTreeSet<&'a str> {
+    let lines = answers.lines().filter(|line| line.starts_with(name));
+    lines
+        .filter_map(|line| line.split_once(' '))
+        .map(|(_, words)| words)
+        .collect()
+}
+
+#[test]
+fn one_list_of_calls_leaves_one_sheet_and_one_panel() {
+    let list = generated(Kind::Sheets, 3, 500);
+    let scenes: Vec<&str> = list.split(ONE_LIST).skip(1).collect();
+    assert_eq!(scenes.len(), 500);
+    for scene in scenes {
+        let (calls, _) = scene.split_once(ONE_LIST_ENDS).expect("a scene goes on");
+        let answers = answers_to(calls).unwrap();
+        for name in ["keep", "flip", "panel"] {
+            assert_eq!(shown(&answers, name).len(), 1, "{name} after {calls}");
+        }
     }
 }

@@ -1,9 +1,12 @@
 //! Sheets against painting, over random lists of calls.
 
-use crate::generate::font_files::{good_font, MadeFont};
-use crate::generate::label_calls::{good_call, good_slice, small_shape, spoil};
+use std::rc::Rc;
+
+use crate::generate::call_lists::{exchanged, random_calls, FontCall};
+use crate::generate::font_files::good_font;
+use crate::generate::label_calls::{good_slice, small_shape};
 use crate::generate::random::Random;
-use crate::label::{paint, Call, Pen};
+use crate::label::{paint, Pen};
 use crate::panel::Shape;
 use crate::refusal::Refused;
 use crate::sheet::{apply, fresh, gather, join, Sheet};
@@ -25,31 +28,21 @@ impl OwnSheet {
     }
 }
 
-/// A font, and calls in mixed modes for one shape; some of them are refused.
+/// Calls in mixed modes and fonts, for one shape; some of them are refused.
 struct Round {
     shape: Shape,
-    font: MadeFont,
-    calls: Vec<Call>,
+    calls: Vec<FontCall>,
 }
 
 impl Round {
     fn random(random: &mut Random) -> Round {
         let shape = small_shape(random);
-        let font = good_font(random);
-        let calls = (0..random.between(1, 6))
-            .map(|_| {
-                let mut call = good_call(random, shape, &font);
-                call.strip = random.between(0, 2);
-                if random.one_in(8) {
-                    spoil(random, &mut call, &font);
-                }
-                call
-            })
-            .collect();
-        Round { shape, font, calls }
+        let font = Rc::new(good_font(random));
+        let calls = random_calls(random, shape, font);
+        Round { shape, calls }
     }
 
-    fn gathered(&self, calls: &[Call]) -> (OwnSheet, Vec<Reply>) {
+    fn gathered(&self, calls: &[FontCall]) -> (OwnSheet, Vec<Reply>) {
         let mut sheet = OwnSheet {
             keep: vec![0x1111; self.shape.words()],
             flip: vec![0x2222; self.shape.words()],
@@ -57,17 +50,17 @@ impl Round {
         fresh(self.shape, sheet.lent()).unwrap();
         let replies = calls
             .iter()
-            .map(|call| gather(&self.font.words, call, sheet.lent()))
+            .map(|given| gather(&given.font.words, &given.call, sheet.lent()))
             .collect();
         (sheet, replies)
     }
+}
 
-    fn painted(&self, panel: &mut [u16]) -> Vec<Reply> {
-        self.calls
-            .iter()
-            .map(|call| paint(&self.font.words, call, panel))
-            .collect()
-    }
+fn painted(calls: &[FontCall], panel: &mut [u16]) -> Vec<Reply> {
+    calls
+        .iter()
+        .map(|given| paint(&given.font.words, &given.call, panel))
+        .collect()
 }
 
 #[test]
@@ -75,12 +68,12 @@ fn a_sheet_applied_leaves_what_painting_in_turn_leaves() {
     let mut random = Random::from_seed(11);
     for _ in 0..400 {
         let round = Round::random(&mut random);
-        let mut painted = good_slice(&mut random, round.shape);
-        let mut applied = painted.clone();
-        let paint_replies = round.painted(&mut painted);
+        let mut panel = good_slice(&mut random, round.shape);
+        let mut applied = panel.clone();
+        let paint_replies = painted(&round.calls, &mut panel);
         let (sheet, gather_replies) = round.gathered(&round.calls);
         apply(round.shape, &sheet.keep, &sheet.flip, &mut applied).unwrap();
-        assert_eq!(applied, painted);
+        assert_eq!(applied, panel);
         assert_eq!(gather_replies, paint_replies);
     }
 }
@@ -101,15 +94,16 @@ fn the_sheets_of_a_cut_list_join_to_the_whole_lists() {
 }
 
 #[test]
-fn calls_for_different_strips_may_be_exchanged() {
+fn calls_for_different_strips_may_change_places() {
     let mut random = Random::from_seed(13);
-    for _ in 0..200 {
-        let mut round = Round::random(&mut random);
-        round.calls.truncate(2);
-        for (strip, call) in round.calls.iter_mut().enumerate() {
-            call.strip = 7 * strip as i64;
-        }
-        let exchanged: Vec<Call> = round.calls.iter().rev().cloned().collect();
+    for _ in 0..400 {
+        let round = Round::random(&mut random);
+        let exchanged = exchanged(&mut random, &round.calls);
         assert_eq!(round.gathered(&round.calls).0, round.gathered(&exchanged).0);
+        let mut panel = good_slice(&mut random, round.shape);
+        let mut other_panel = panel.clone();
+        painted(&round.calls, &mut panel);
+        painted(&exchanged, &mut other_panel);
+        assert_eq!(panel, other_panel);
     }
 }
