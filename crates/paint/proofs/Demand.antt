@@ -4,21 +4,20 @@ use mathlib.Core.Path.{_≡_, refl, sym, ap, ap₂, _∙_}
 use mathlib.Core.Bool.{Bool, true, false, cond}
 use mathlib.Core.List.{List, [], _∷_}
 use native.Mathlib.Omega.{arith}
-use lib.Bits.{bitAnd, differ}
+use lib.Bits.{differ}
 use lib.ListN.{length}
 use borrow.Author.Tests.{le-ltb, ne-eqb}
-use Rattle.words.specs.declared.Effect.{Effect}
 use Rattle.words.specs.declared.Mode.{Mode}
 use Rattle.words.specs.declared.Mode.the-variants.{Paint, Erase, Invert}
 use Rattle.words.specs.Word.{word, bitOf, wordOf}
 use Rattle.words.specs.Refusal.{firstOf, orElse}
 use Rattle.words.specs.Place.{placeOf}
 use Rattle.words.specs.Effect.{effectOf, applyTo, altered, modeOf, OfWords}
-use Rattle.words.proofs.Digits.{bit-and, bit-xor, bit-not, bit-zero, bit-ones, bit-digit}
+use Rattle.words.proofs.Digits.{bit-not, bit-zero, bit-ones, bit-digit}
 use Rattle.words.proofs.BitLaws.{on-digit}
 use Rattle.words.proofs.Bits.{bit-word-of}
 use Rattle.words.proofs.Chain.{stage-goes-on}
-use Rattle.words.proofs.Effects.{apply-identity, apply-join, mode-words, join-words}
+use Rattle.words.proofs.Effects.{apply-identity, apply-join, apply-bit, mode-words, join-words}
 use Rattle.words.proofs.Altering.{AllWords, altered-past, from-zero, apply-lt}
 use Rattle.fonts.specs.declared.Glyph.{Glyph}
 use Rattle.fonts.specs.Reading.{fontNumber}
@@ -58,9 +57,6 @@ inverts m d hm hd =
     on-digit (λ (x : ℕ). differ (min d 1) x ≡ dotUnder Invert x d)
     (on-digit (λ (z : ℕ). differ (min z 1) 0 ≡ dotUnder Invert 0 z) refl refl d hd)
     (on-digit (λ (z : ℕ). differ (min z 1) 1 ≡ dotUnder Invert 1 z) refl refl d hd) m hm
-
-apply-bit : (e : Effect) (d j : ℕ) → bitOf (applyTo e d) j ≡ differ (min (bitOf d j) (bitOf (e .keep) j)) (bitOf (e .flip) j)
-apply-bit e d j = bit-xor (bitAnd d (e .keep)) (e .flip) j ∙ ap (λ (x : ℕ). differ x (bitOf (e .flip) j)) (bit-and d (e .keep) j)
 
 effect-bit : (mode : Mode) (mask d j : ℕ) → mask < 65536 → j < 16 → bitOf (applyTo (effectOf mode mask) d) j ≡ dotUnder mode (bitOf mask j) (bitOf d j)
 effect-bit Paint mask d j hm hj =

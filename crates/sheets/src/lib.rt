@@ -6,8 +6,7 @@ ghost use mathlib.Core.Path.{_≡_};
 ghost use Prim.Native.Nat.{_≤_};
 ghost use lib.ListN.{length};
 ghost use Rattle.words.specs.Word.{over};
-ghost use Rattle.words.specs.Effect.{altered};
-ghost use Rattle.words.specs.Effect.{joinOf};
+ghost use Rattle.words.specs.Effect.{altered, joinOf};
 ghost use Rattle.paint.specs.Label.{callOf, isRefused};
 ghost use Rattle.sheets.specs.Sheet.{sheetOf, effectAt, freshNumber, freshAfter, joinNumber, joinAfter, applyNumber, applyAfter, gatherReply, gatherAfter};
 

@@ -12,8 +12,9 @@ use Rattle.words.specs.declared.Mode.{Mode}
 use Rattle.words.specs.declared.Mode.the-variants.{Paint, Erase, Invert}
 use Rattle.words.specs.Word.{bitOf}
 use Rattle.words.specs.Effect.{identity, joinOf, applyTo, effectOf, OfWords, Leaves}
-use Rattle.words.proofs.Digits.{dig, dig-bit, ext-word, dig-and, dig-xor, dig-of, bit-not, bit-zero, bit-ones, bit-and, bit-digit}
+use Rattle.words.proofs.Digits.{bit-not, bit-zero, bit-ones, bit-and, bit-xor, bit-digit}
 use Rattle.words.proofs.BitLaws.{on-digit, and-assoc, xor-assoc, and-xor, and-ones, ones-and, xor-cancel}
+use Rattle.words.proofs.Bits.{ext-bits}
 
 effect-path : {k l f g : ℕ} → k ≡ l → f ≡ g → _≡_ {A = Effect} (record { keep = k; flip = f }) (record { keep = l; flip = g })
 effect-path p q = λ i. record { keep = p i; flip = q i }
@@ -36,6 +37,10 @@ apply-identity d h = xor-zero-r (bitAnd d 0xFFFF) ∙ and-ones d h
 
 pub apply-join : (a b : Effect) (d : ℕ) → applyTo (joinOf a b) d ≡ applyTo b (applyTo a d)
 apply-join a b d = simp (and-xor, and-assoc, xor-assoc)
+
+-- dot j of the word applied to, which is also dot j of a join's flip: the second effect applied to the first's flip
+pub apply-bit : (e : Effect) (d j : ℕ) → bitOf (applyTo e d) j ≡ differ (min (bitOf d j) (bitOf (e .keep) j)) (bitOf (e .flip) j)
+apply-bit e d j = bit-xor (bitAnd d (e .keep)) (e .flip) j ∙ ap (λ (x : ℕ). differ x (bitOf (e .flip) j)) (bit-and d (e .keep) j)
 
 -- ---- and is told by what it does
 
@@ -60,9 +65,6 @@ flips-commute k₁ f₁ k₂ f₂ h e₁ e₀ =
     rw (e₁, e₀)
     (rw (zero-min k₂) (on-digit (λ (x : ℕ). x ≡ differ (min x 1) 0) refl refl f₂ h))
 
-join-digits : (a b : Effect) (i : ℕ) → dig (joinOf a b .flip) i ≡ differ (min (dig (a .flip) i) (dig (b .keep) i)) (dig (b .flip) i)
-join-digits a b i = simp (dig-xor, dig-and)
-
 pub join-words : (a b : Effect) → OfWords a → OfWords b → OfWords (joinOf a b)
 join-words a b ha hb = (
   and-lt 16 (a .keep) (b .keep) (ha .0) (hb .0),
@@ -74,18 +76,16 @@ pub commute : (a b : Effect) → OfWords a → OfWords b
     → joinOf a b ≡ joinOf b a
 commute a b ha hb apart =
     effect-path (and-comm (a .keep) (b .keep))
-    (ext-word _ _ (join-words a b ha hb .1) (join-words b a hb ha .1)
-    (λ i h. join-digits a b i ∙ at-digit i h ∙ sym (join-digits b a i)))
+    (ext-bits _ _ (join-words a b ha hb .1) (join-words b a hb ha .1)
+    (λ j h. apply-bit b (a .flip) j ∙ at-bit j h ∙ sym (apply-bit a (b .flip) j)))
   where
-    at-digit : (i : ℕ) → i < 16
-        → differ (min (dig (a .flip) i) (dig (b .keep) i)) (dig (b .flip) i) ≡ differ (min (dig (b .flip) i) (dig (a .keep) i)) (dig (a .flip) i)
-    at-digit i h =
+    at-bit : (j : ℕ) → j < 16
+        → differ (min (bitOf (a .flip) j) (bitOf (b .keep) j)) (bitOf (b .flip) j) ≡ differ (min (bitOf (b .flip) j) (bitOf (a .keep) j)) (bitOf (a .flip) j)
+    at-bit j h =
         ⊎-elim
-        (λ l. flips-commute (dig (a .keep) i) (dig (a .flip) i) (dig (b .keep) i) (dig (b .flip) i) (dig-bit (b .flip) i)
-        (dig-of (a .keep) i h ∙ l .0) (dig-of (a .flip) i h ∙ l .1))
-        (λ l. sym (flips-commute (dig (b .keep) i) (dig (b .flip) i) (dig (a .keep) i) (dig (a .flip) i) (dig-bit (a .flip) i)
-        (dig-of (b .keep) i h ∙ l .0) (dig-of (b .flip) i h ∙ l .1)))
-        (apart (15 - i) (omega arith))
+        (λ l. flips-commute (bitOf (a .keep) j) (bitOf (a .flip) j) (bitOf (b .keep) j) (bitOf (b .flip) j) (bit-digit (b .flip) j) (l .0) (l .1))
+        (λ l. sym (flips-commute (bitOf (b .keep) j) (bitOf (b .flip) j) (bitOf (a .keep) j) (bitOf (a .flip) j) (bit-digit (a .flip) j) (l .0) (l .1)))
+        (apart j h)
 
 -- a mode leaves alone the dots that are not in its mask
 pub mode-words : (m : Mode) (mask : ℕ) → mask < 65536 → OfWords (effectOf m mask)
