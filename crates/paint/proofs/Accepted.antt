@@ -1,7 +1,7 @@
 -- What a call that passed its tests promises: the inverse of the chains of tests.
-use Prim.Native.Nat.{ℕ, _+_, _*_, _<_, _≤_}
-use mathlib.Core.Path.{_≡_, refl, ap, _∙_}
-use mathlib.Core.Bool.{Bool, true, false, cond, true≢false, _||_}
+use Prim.Native.Nat.{ℕ, _+_, _*_, _≤_}
+use mathlib.Core.Path.{_≡_, ap, _∙_}
+use mathlib.Core.Bool.{false, _||_}
 use mathlib.Core.List.{[], _∷_}
 use native.Mathlib.Nat.{mul-le-mul-right, suc-mul}
 use native.Mathlib.Numerals.{add-one}
@@ -11,24 +11,10 @@ use lib.IntN.{ℤ}
 use borrow.Author.Tests.{ltb-false, le-ltb}
 use Rattle.words.specs.Refusal.{firstOf, notWithin}
 use Rattle.words.specs.Place.{outside}
+use Rattle.words.proofs.Passed.{neither, passed, within}
 use Rattle.paint.specs.declared.Shape.{Shape}
 use Rattle.paint.specs.Panel.{badSides, badShape, someShort, badPanel}
 use Rattle.paint.specs.Label.{labelNumber}
-
-neither : (s t : Bool) → (s || t) ≡ false → (s ≡ false) × (t ≡ false)
-neither true t e = absurd (true≢false e)
-neither false t e = (refl, e)
-
--- no number was given, so the test did not hold
-passed : (t : Bool) (number rest : ℕ) → 0 < number → cond t number rest ≡ 0 → (t ≡ false) × (rest ≡ 0)
-passed true number rest h e = absurd (omega arith)
-passed false number rest h e = (refl, e)
-
-within : (least most n : ℕ) → notWithin least most n ≡ false → (least ≤ n) × (n ≤ most)
-unfolding notWithin
-within least most n e =
-    let both = neither (ltb n least) (ltb most n) e in
-    (ltb-false n least (both .0), ltb-false most n (both .1))
 
 -- what a shape and a slice that 8 does not refuse promise
 pub record GoodPanel (s : Shape) (room : ℕ) : Type 0 where

@@ -18,6 +18,7 @@ use Rattle.words.proofs.BitLaws.{on-digit}
 use Rattle.words.proofs.Bits.{bit-word-of}
 use Rattle.words.proofs.Chain.{stage-goes-on}
 use Rattle.words.proofs.Effects.{apply-identity, apply-join, apply-bit, mode-words, join-words}
+use Rattle.words.proofs.Rows.{row-of, word-of-row, row-room}
 use Rattle.words.proofs.Altering.{AllWords, altered-past, from-zero, apply-lt}
 use Rattle.fonts.specs.declared.Glyph.{Glyph}
 use Rattle.fonts.specs.Reading.{fontNumber}
@@ -31,7 +32,6 @@ use Rattle.paint.specs.Label.{Call, labelNumber, callNumber, callEffect,
 use Rattle.paint.specs.Pen.{penAt, penAfter, mark, maskFrom, maskAt, pictureEffect, labelEffect, inStrip}
 use Rattle.paint.specs.Rule.{panelDot, dotUnder, dotUnderLabel, dotAfter}
 use Rattle.paint.proofs.Marks.{mark-bit, mark-beside, mask-lt, strip-right-of, strip-left-of}
-use Rattle.paint.proofs.Rows.{row-of, word-of-row, row-room}
 use Rattle.paint.proofs.Accepted.{GoodPanel, good-panel, good-places}
 
 -- ---- one dot under one effect

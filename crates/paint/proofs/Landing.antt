@@ -2,12 +2,13 @@
 -- within the strip. And two strips share no column.
 use Prim.Native.Nat.{ℕ, _+_, _-_, _*_, _/_, _<_, _≤_}
 use mathlib.Core.Path.{_≡_, refl, sym, ap, ap₂, _∙_}
-use mathlib.Core.Bool.{Bool, true, false, cond, _&&_}
+use mathlib.Core.Bool.{Bool, true, false, cond}
 use native.Mathlib.Nat.{div-eq-of-lt-le, zero-mul, one-mul, mul-one, add-mul}
 use native.Mathlib.Omega.{arith}
 use lib.Dec.{leb, ltb}
 use borrow.Author.Tests.{leb-true, ltb-true, le-leb, lt-ltb}
 use Rattle.words.proofs.BitLaws.{on-digit}
+use Rattle.words.proofs.Passed.{both}
 use Rattle.fonts.specs.declared.Glyph.{Glyph}
 use Rattle.paint.specs.declared.Shape.{Shape}
 use Rattle.paint.specs.declared.Strip.{Strip}
@@ -19,10 +20,6 @@ use Rattle.paint.proofs.Marks.{in-strip-bit, along-bit}
 choice-one : (t : Bool) (a : ℕ) → cond t a 0 ≡ 1 → (t ≡ true) × (a ≡ 1)
 choice-one true a e = (refl, e)
 choice-one false a e = absurd (omega arith)
-
-both : (s t : Bool) → (s && t) ≡ true → (s ≡ true) × (t ≡ true)
-both true t e = (refl, e)
-both false t e = absurd (mathlib.Core.Bool.false≢true e)
 
 product-one : (a b : ℕ) → a < 2 → b < 2 → a * b ≡ 1 → (a ≡ 1) × (b ≡ 1)
 product-one a b ha hb =

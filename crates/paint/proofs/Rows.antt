@@ -2,7 +2,7 @@
 use Prim.Native.Nat.{ℕ, _+_, _-_, _*_, _/_, _%_, _<_, _≤_, min}
 use mathlib.Core.Path.{_≡_, sym, ap, ap₂, _∙_}
 use mathlib.Core.List.{List}
-use native.Mathlib.Nat.{mul-le-mul, mul-add-div-right, mul-add-mod-self-right, div-eq-of-lt, mod-eq-of-lt, add-zero, zero-add, add-assoc, add-mul, suc-mul, mul-comm, add-sub-of-le, div-lt-iff-lt-mul, le-div-iff-mul-le, mul-le-mul-right}
+use native.Mathlib.Nat.{mul-le-mul, zero-add, add-assoc, add-mul, suc-mul, mul-comm, add-sub-of-le, div-lt-iff-lt-mul, le-div-iff-mul-le}
 use native.Mathlib.Numerals.{add-one}
 use native.Mathlib.Omega.{arith}
 use Rattle.words.specs.declared.Effect.{Effect}
@@ -10,6 +10,7 @@ use Rattle.words.specs.declared.Mode.{Mode}
 use Rattle.words.specs.declared.Mode.the-variants.{Paint, Erase, Invert}
 use Rattle.words.specs.Effect.{identity, effectOf, altered, OfWords}
 use Rattle.words.proofs.Effects.{mode-words}
+use Rattle.words.proofs.Rows.{row-of, word-of-row}
 use Rattle.words.proofs.Altering.{AllWords, altered-idle, altered-words, altered-on, altered-middle}
 use Rattle.fonts.specs.declared.Glyph.{Glyph}
 use Rattle.paint.specs.declared.Shape.{Shape}
@@ -21,13 +22,6 @@ use Rattle.paint.proofs.Marks.{mask-above, mask-under, mask-beside, mas
 -- a row times the words of a row, for a panel within its limits
 pub rows-before : (row rowwords : ℕ) → row < 256 → rowwords ≤ 128 → row * rowwords ≤ 32640
 rows-before row rowwords h k = mul-le-mul {n₂ = 255} {m₂ = 128} (omega arith) k
-
--- word w of row r stands at r × R + w
-pub row-of : (row rowwords w : ℕ) → w < rowwords → (row * rowwords + w) / rowwords ≡ row
-row-of row rowwords w h = mul-add-div-right (omega arith) row w ∙ ap (λ (n : ℕ). row + n) (div-eq-of-lt h) ∙ add-zero row
-
-pub word-of-row : (row rowwords w : ℕ) → w < rowwords → (row * rowwords + w) % rowwords ≡ w
-word-of-row row rowwords w h = mul-add-mod-self-right row rowwords w ∙ mod-eq-of-lt h
 
 module _ (dot : Glyph → ℕ → ℕ → ℕ) (s : Shape) (strip : Strip) (y : ℕ) (mode : Mode) (pen : Pen) (g : Glyph) where
   -- the effect on a word, by its row and its place in the row
@@ -105,10 +99,3 @@ module _ (dot : Glyph → ℕ → ℕ → ℕ) (s : Shape) (strip : Strip) (y : 
       ∙ ap (λ (k : ℕ). altered k (first + count + rest) effect before) (sym (zero-add (row * s .rowwords)))
       ∙ sym (altered-on 0 (row * s .rowwords) (first + count + rest) effect lent)
       ∙ ap (λ (n : ℕ). altered 0 n effect lent) next
-
--- a row within the panel ends within its words
-pub row-room : (row rows rowwords room : ℕ) → row < rows → rowwords * rows ≤ room → row * rowwords + rowwords ≤ room
-row-room row rows rowwords room h k =
-    let upto : (row + 1) * rowwords ≤ rows * rowwords = mul-le-mul-right rowwords (omega arith) in
-    let next : (row + 1) * rowwords ≡ row * rowwords + rowwords = ap (λ (n : ℕ). n * rowwords) (add-one row) ∙ suc-mul row rowwords in
-    omega (arith, mul-comm rows rowwords)

@@ -10,7 +10,6 @@ use lib.Dec.{ltb}
 use lib.IntN.{ℤ}
 use lib.ListN.{length, set}
 use borrow.Author.Tests.{ne-eqb}
-use lib.Seq.{set-getD}
 use Rattle.words.specs.declared.Effect.{Effect}
 use Rattle.words.specs.declared.Mode.the-variants.{Paint, Erase, Invert}
 use Rattle.words.specs.Word.{word, over}
@@ -50,17 +49,6 @@ module _ (face : Face) (s : Shape) (strip : Strip) (y i : ℕ) where
   invert-keeps-all (c ∷ label) pen = ap (bitAnd 0xFFFF) (invert-keeps-all label (penAfter pen (face .glyph c)))
 
 -- ---- writing over, and altering
-
-pub over-same : (n : ℕ) (f g : ℕ → ℕ) (p : List ℕ) → ((i : ℕ) → i < n → f i ≡ g i) → over n f p ≡ over n g p
-unfolding over
-over-same zero f g p same = refl
-over-same (suc n) f g p same = ap₂ (λ (q : List ℕ) (d : ℕ). set q n d) (over-same n f g p (λ i less. same i (omega arith))) (same n (omega arith))
-
-pub over-idle : (n : ℕ) (f : ℕ → ℕ) (p : List ℕ) → ((i : ℕ) → i < n → f i ≡ word p i) → over n f p ≡ p
-unfolding over
-over-idle zero f p same = refl
-over-idle (suc n) f p same =
-    ap₂ (λ (q : List ℕ) (d : ℕ). set q n d) (over-idle n f p (λ i less. same i (omega arith))) (same n (omega arith)) ∙ set-getD p n 0
 
 pub altered-over : (n : ℕ) (e : ℕ → Effect) (p : List ℕ) → altered 0 n e p ≡ over n (λ i. applyTo (e i) (word p i)) p
 unfolding altered over

@@ -7,6 +7,12 @@ pub mod Bits
 pub mod Signs
 pub mod Effects
 pub mod DotByDot
+pub mod Tables
 pub mod Over
+pub mod Bytes
+pub mod Search
+pub mod Passed
+pub mod OneBit
+pub mod Rows
 pub mod Altering
 pub mod Outcomes

@@ -9,8 +9,14 @@ use borrow.Fn.Kinds.{PK, RK, Dens, resT, Out, endedOf}
 use Rattle.words.proofs.bit as bit
 use Rattle.words.proofs.not_within as not-within
 use Rattle.words.proofs.place_of_word as place-of-word
+use Rattle.words.proofs.past as past
+use Rattle.words.proofs.put_bit as put-bit
+use Rattle.words.proofs.outside as outside
+use Rattle.words.proofs.place_of as place-of
 use Rattle.words.proofs.word_at as word-at
 use Rattle.words.proofs.part as part
+use Rattle.words.proofs.from_bytes as from-bytes
+use Rattle.words.proofs.to_bytes as to-bytes
 use Rattle.words.proofs.Mode.of as mode-of
 use Rattle.words.proofs.Effect.new as new
 use Rattle.words.proofs.Effect.identity as identity
@@ -65,9 +71,32 @@ not-within-one κs a r o e e′ p q = p ∙ sym q
 pub place-of-word-one : OneReply 0 place-of-word.Kinds.ps place-of-word.Kinds.r place-of-word.Reads.Post
 place-of-word-one κs a r o e e′ p q = p ∙ sym q
 
+pub past-one : OneReply 0 past.Kinds.ps past.Kinds.r past.Reads.Post
+past-one κs a r o e e′ p q = p ∙ sym q
+
+pub put-bit-one : OneReply 0 put-bit.Kinds.ps put-bit.Kinds.r put-bit.Reads.Post
+put-bit-one κs a r o e e′ p q = p ∙ sym q
+
+pub outside-one : OneReply 0 outside.Kinds.ps outside.Kinds.r outside.Reads.Post
+outside-one κs a r o e e′ p q = p ∙ sym q
+
+pub place-of-one : OneReply 0 place-of.Kinds.ps place-of.Kinds.r place-of.Reads.Post
+place-of-one κs a r o e e′ p q = p ∙ sym q
+
 pub word-at-one : OneReply 1 word-at.Kinds.ps word-at.Kinds.r word-at.Reads.Post
 word-at-one κs a r o e e′ p q = p ∙ sym q
 
 pub part-one : (κs : Lfts 1) (a : Dens κs part.Kinds.ps) (r o : resT part.Kinds.r κs .Denot) (e e′ : AtExit (endedOf 1 part.Kinds.ps part.Kinds.r) κs)
     → part.Reads.Post κs a r e → part.Reads.Post κs a o e′ → now r ≡ now o
 part-one κs a r o e e′ p q = p ∙ sym q
+
+-- the list that the words are written over too
+pub from-bytes-one : (κs : Lfts 2) (a : Dens κs from-bytes.Kinds.ps) (r o : resT from-bytes.Kinds.r κs .Denot) (e e′ : AtExit (endedOf 2 from-bytes.Kinds.ps from-bytes.Kinds.r) κs)
+    → from-bytes.Reads.Post κs a r e → from-bytes.Reads.Post κs a o e′
+    → (r ≡ o) × (now (e .1 .0) ≡ now (e′ .1 .0))
+from-bytes-one κs a r o e e′ p q = (p .0 ∙ sym (q .0), p .1 ∙ sym (q .1))
+
+pub to-bytes-one : (κs : Lfts 2) (a : Dens κs to-bytes.Kinds.ps) (r o : resT to-bytes.Kinds.r κs .Denot) (e e′ : AtExit (endedOf 2 to-bytes.Kinds.ps to-bytes.Kinds.r) κs)
+    → to-bytes.Reads.Post κs a r e → to-bytes.Reads.Post κs a o e′
+    → (r ≡ o) × (now (e .1 .0) ≡ now (e′ .1 .0))
+to-bytes-one κs a r o e e′ p q = (p .0 ∙ sym (q .0), p .1 ∙ sym (q .1))

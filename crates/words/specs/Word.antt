@@ -1,6 +1,6 @@
 -- Bits, words and bytes: the paper's "What the panel software holds".
 use Prim.Native.Nat.{ℕ, zero, suc, _+_, _-_, _*_, _/_, _%_, _^_}
-use mathlib.Core.Bool.{Bool}
+use mathlib.Core.Bool.{Bool, cond}
 use mathlib.Core.List.{List, [], _∷_}
 use lib.Dec.{eqb}
 use lib.ListN.{length, getD, set}
@@ -21,6 +21,10 @@ wordTo f (suc n) = wordTo f n * 2 + f n
 -- the word whose bit j is f j
 unfoldable pub wordOf : (ℕ → ℕ) → ℕ
 wordOf f = wordTo f 16
+
+-- the word with bit j set to the last bit of b
+unfoldable pub putBit : ℕ → ℕ → ℕ → ℕ
+putBit w j b = wordOf (λ i. cond (eqb i j) (b % 2) (bitOf w i))
 
 -- "In bytes the high byte comes first." A last byte without a partner spells no word
 unfoldable pub wordsOf : List ℕ → List ℕ

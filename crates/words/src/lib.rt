@@ -1,8 +1,9 @@
 // Words of lent memory and their bits, and effects on a word of dots: what painting does to it, as a value that can be applied, joined
 // and kept in a sheet.
 ghost use mathlib.Core.Path.{_≡_};
-ghost use lib.ListN.{take, drop};
-ghost use Rattle.words.specs.Word.{word, bitOf};
+ghost use Prim.Native.Nat.{_+_, _-_, _*_, _/_, _%_, min};
+ghost use lib.ListN.{length, take, drop};
+ghost use Rattle.words.specs.Word.{word, bitOf, putBit, wordsOf, bytesOf, over};
 ghost use Rattle.words.specs.Refusal.{notWithin};
 ghost use Rattle.words.specs.Place.{outside, placeOf, placeOfWord};
 ghost use Rattle.words.specs.Effect.{effect, identity, paintOf, eraseOf, invertOf, effectOf, modeOf, joinOf, applyTo};
@@ -134,6 +135,30 @@ pub fn part(list: &[u16], from: usize, count: usize) -> &[u16]
     &list[from..from + count]
 }
 
+// How far one number lies past another; 0 where it does not.
+pub fn past(a: usize, b: usize) -> usize
+    ensures { λ r. ⌜ r ≡ a - b ⌝ }
+{
+    if a < b {
+        return 0;
+    }
+    a - b
+}
+
+// The word with bit j, for j from 0 to 15, set to the last bit of b.
+pub fn put_bit(w: u16, j: usize, b: u16) -> u16
+    ensures { λ r. ⌜ r ≡ putBit w j b ⌝ }
+{
+    if 15 < j {
+        return w;
+    }
+    let mask = 0x8000 >> j;
+    if b % 2 == 1 {
+        return Effect::paint(mask).apply(w);
+    }
+    Effect::erase(mask).apply(w)
+}
+
 // A number is not from least to most.
 pub fn not_within(least: usize, most: usize, n: usize) -> bool
     ensures { λ r. ⌜ r ≡ notWithin least most n ⌝ }
@@ -172,4 +197,64 @@ pub fn place_of(x: i32) -> usize
         return 0;
     }
     (x + 2048) as usize
+}
+
+fn least(a: usize, b: usize) -> usize
+    ensures { λ r. ⌜ r ≡ min a b ⌝ }
+{
+    if a < b { a } else { b }
+}
+
+// The bytes that so many words spell, and no more than there is room for.
+fn least_bytes(words: usize, room: usize) -> usize
+    ensures { λ r. ⌜ r ≡ min (2 * words) room ⌝ }
+{
+    if room / 2 < words { room } else { 2 * words }
+}
+
+// The word of two bytes.
+fn pair(high: u8, low: u8) -> u16
+    ensures { λ r. ⌜ r ≡ high * 256 + low ⌝ }
+{
+    high as u16 * 256 + low as u16
+}
+
+// Byte i of the bytes that a list spells, the high byte of a word first; 0 past their end.
+fn byte_at(list: &[u16], i: usize) -> u8
+    ensures { λ r. ⌜ r ≡ word (bytesOf (now (list .entry))) i ⌝ }
+{
+    let w = word_at(list, i / 2);
+    if i % 2 == 0 {
+        return (w / 256) as u8;
+    }
+    (w % 256) as u8
+}
+
+// Writes the words that bytes spell, the high byte first, over the first words of a list: as many as there are whole ones and as it has
+// room for. Answers how many.
+pub fn from_bytes(bytes: &[u8], list: &mut [u16]) -> usize
+    ensures { λ r. ⌜ r ≡ min (length (now (bytes .entry)) / 2) (length (now (list .entry))) ⌝ }
+    ensures list { λ r. ⌜ now (list .exit) ≡ over (min (length (now (bytes .entry)) / 2) (length (now (list .entry)))) (word (wordsOf (now (bytes .entry)))) (now (list .entry)) ⌝ }
+{
+    let n = least(bytes.len() / 2, list.len());
+    let mut i = 0;
+    while i < n {
+        list[i] = pair(bytes[2 * i], bytes[2 * i + 1]);
+        i += 1;
+    }
+    n
+}
+
+// Writes the bytes that words spell, the high byte first, over the first bytes of a slice: as many as it has room for. Answers how many.
+pub fn to_bytes(list: &[u16], bytes: &mut [u8]) -> usize
+    ensures { λ r. ⌜ r ≡ min (2 * length (now (list .entry))) (length (now (bytes .entry))) ⌝ }
+    ensures bytes { λ r. ⌜ now (bytes .exit) ≡ over (min (2 * length (now (list .entry))) (length (now (bytes .entry)))) (word (bytesOf (now (list .entry)))) (now (bytes .entry)) ⌝ }
+{
+    let n = least_bytes(list.len(), bytes.len());
+    let mut i = 0;
+    while i < n {
+        bytes[i] = byte_at(list, i);
+        i += 1;
+    }
+    n
 }

@@ -12,7 +12,8 @@ use Rattle.fonts.specs.Face.{dotOf}
 use Rattle.paint.specs.Pen.{pictureEffect}
 use Rattle.fonts.proofs.Dots.{dot-bit, dot-past}
 use Rattle.words.proofs.Altering.{altered-length}
-use Rattle.paint.proofs.Rows.{row-room, above-idle, under-idle, row-altered}
+use Rattle.words.proofs.Rows.{row-room}
+use Rattle.paint.proofs.Rows.{above-idle, under-idle, row-altered}
 use Rattle.paint.proofs.paint_picture.Statement.{statement}
 use Rattle.paint.proofs.paint_picture.Tie as tie
 

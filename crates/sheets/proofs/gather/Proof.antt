@@ -13,10 +13,11 @@ use lib.ListN.{length}
 use borrow.Author.Tests.{eqb-false}
 use borrow.Author.Needs.{needs}
 use Rattle.paint.specs.Label.{callOf, callNumber, callEffect, replyOf, replyFor, paintAfter, isRefused, lastPen}
+use Rattle.words.proofs.Over.{over-same, over-idle}
 use Rattle.words.specs.Word.{word}
 use Rattle.paint.specs.Panel.{panelWords}
 use Rattle.sheets.specs.Sheet.{Sheet, sheetOf, written, lengths, gatherReply}
-use Rattle.sheets.proofs.Gathering.{keep-refuses, flip-decides, gather-refused, gather-done, refused-number, accepted-number, over-same, over-idle, altered-over, keep-erased, keep-inverted}
+use Rattle.sheets.proofs.Gathering.{keep-refuses, flip-decides, gather-refused, gather-done, refused-number, accepted-number, altered-over, keep-erased, keep-inverted}
 use Rattle.paint.proofs.Demand.{label-accepted}
 use Rattle.paint.proofs.Accepted.{good-erase}
 use Rattle.paint.proofs.Replies.{by-font, by-label, replies-refused, panel-refused, panel-painted}
