@@ -8,23 +8,12 @@ use Rattle.words.specs.Word.{wordsOf, bytesOf, oddBytes}
 use Rattle.words.specs.Refusal.{firstOf, orElse}
 use Rattle.convert.specs.declared.Conversion.{Conversion}
 use Rattle.convert.specs.declared.Conversion.the-variants.{Written, Refused}
-use Rattle.convert.specs.Writing.{fileOf, fileWords, badSpacing, badOffset, tooLarge, noRoom}
-use Rattle.convert.specs.Cu.{badSize, badCount, badCode, noOrigin, drawingOf}
+use Rattle.convert.specs.Writing.{fileOf, fileWords, drawingNumber}
+use Rattle.convert.specs.Cu.{drawingOf, cuFileNumber}
 
 -- the number of a CU file's refusal, where the output has room for so many words
 unfoldable pub cuNumber : List ℕ → ℕ → ℕ
-cuNumber ws room =
-    let d = drawingOf ws in
-    firstOf
-    ((badSize ws, 20)
-    ∷ (badCount ws, 21)
-    ∷ (badCode ws, 22)
-    ∷ (noOrigin ws, 23)
-    ∷ (badSpacing d, 24)
-    ∷ (badOffset d, 25)
-    ∷ (tooLarge d, 26)
-    ∷ (noRoom d room, 27)
-    ∷ [])
+cuNumber ws room = orElse (cuFileNumber ws) (drawingNumber (drawingOf ws) room)
 
 unfoldable pub conversionOf : List ℕ → ℕ → Conversion
 conversionOf ws room = cond (eqb (cuNumber ws room) 0) (Written (fileWords (drawingOf ws))) (Refused (cuNumber ws room))

@@ -1,13 +1,29 @@
 -- The CU file, its origin, boxes and dots: the paper's "The CU file and its conversion".
 use Prim.Native.Nat.{ℕ, _+_, _-_, _*_, _/_, _%_}
-use mathlib.Core.Bool.{Bool, cond, not, _&&_, _||_}
-use mathlib.Core.List.{List}
+use mathlib.Core.Bool.{Bool, false, cond, not, _&&_, _||_}
+use mathlib.Core.List.{List, [], _∷_}
 use lib.Dec.{ltb, eqb}
 use lib.ListN.{length}
-use Rattle.words.specs.Word.{word, bitOf}
+use Rattle.words.specs.Word.{word, bitOf, table}
 use Rattle.words.specs.Search.{someBelow, firstBelow, lastBelow}
-use Rattle.words.specs.Refusal.{notWithin}
+use Rattle.words.specs.Refusal.{firstOf, notWithin}
+use Rattle.convert.specs.declared.cu.Frame.{Frame}
+use Rattle.convert.specs.declared.cu.Placed.{Placed}
+use Rattle.convert.specs.declared.cu.Source.{Source}
 use Rattle.convert.specs.Writing.{Drawing}
+
+-- no code is there
+abbrev pub nothing : Placed
+nothing = record { places = table 256 (λ c. 0); bad = false }
+
+-- a refusal's "number, zeros beside it"
+abbrev pub noSource : ℕ → Source
+noSource number =
+    record {
+      number = number;
+      places = table 256 (λ c. 0);
+      frame = record { origin = 0; left = 0; top = 0; fbbox = 0; fbbdx = 0; ascent = 0; descent = 0 };
+    }
 
 module _ (ws : List ℕ) where
   -- "Word 0 is H, word 1 is WW"
@@ -41,12 +57,19 @@ module _ (ws : List ℕ) where
   badCode =
       someBelow chars (λ k. ltb 255 (word ws (charAt k)) || someBelow k (λ i. eqb (word ws (charAt i)) (word ws (charAt k))))
 
-  -- "Characters come in any order": a code's place in the file, or 0, where H stands, for an absent one
-  unfoldable pub codePlace : ℕ → ℕ
-  codePlace c = let k = firstBelow chars (λ i. eqb (word ws (charAt i)) c) in cond (ltb k chars) (charAt k) 0
+  -- "Characters come in any order": a code's place among the first n characters, or 0, where H stands, for one that is not there
+  unfoldable pub placeAmong : ℕ → ℕ → ℕ
+  placeAmong n c = let k = firstBelow n (λ i. eqb (word ws (charAt i)) c) in cond (ltb k n) (charAt k) 0
 
-  unfoldable pub presentAt : ℕ → Bool
-  presentAt c = ltb 0 (codePlace c)
+  unfoldable pub codePlace : ℕ → ℕ
+  codePlace = placeAmong chars
+
+  -- "a table of 256 places, one for each code"
+  unfoldable pub placesOf : List ℕ
+  placesOf = table 256 codePlace
+
+  unfoldable pub placedOf : Placed
+  placedOf = record { places = placesOf; bad = badCode }
 
   -- the dot at row i, column j of the character at a place; "H × WW raster words, top row first"
   unfoldable pub rasterDot : ℕ → ℕ → ℕ → ℕ
@@ -65,15 +88,18 @@ module _ (ws : List ℕ) where
   hasDot place = someBelow rows (dotInRow place)
 
   -- 23: "no code 65 with a dot"
+  unfoldable pub noOriginAt : ℕ → Bool
+  noOriginAt place = not (ltb 0 place && hasDot place)
+
   unfoldable pub noOrigin : Bool
-  noOrigin = not (presentAt 65 && hasDot (codePlace 65))
+  noOrigin = noOriginAt (codePlace 65)
 
-  -- "The origin: in code 65, take the lowest row with a dot and the leftmost dot in that row, at row a and column b."
-  unfoldable pub originRow : ℕ
-  originRow = lastBelow rows (dotInRow (codePlace 65))
+  -- "the lowest row with a dot and the leftmost dot in that row"
+  unfoldable pub lowestOf : ℕ → ℕ
+  lowestOf place = lastBelow rows (dotInRow place)
 
-  unfoldable pub originColumn : ℕ
-  originColumn = firstBelow width (λ j. eqb (rasterDot (codePlace 65) originRow j) 1)
+  unfoldable pub firstInRow : ℕ → ℕ → ℕ
+  firstInRow place i = firstBelow width (λ j. eqb (rasterDot place i j) 1)
 
   -- a character's own box, in columns of the raster
   unfoldable pub leftOf : ℕ → ℕ
@@ -82,32 +108,80 @@ module _ (ws : List ℕ) where
   unfoldable pub rightOf : ℕ → ℕ
   rightOf place = lastBelow width (dotInColumn place)
 
+  -- "Each picture is as wide as its own box"
+  unfoldable pub columnsAcross : ℕ → ℕ
+  columnsAcross place = cond (hasDot place) (rightOf place - leftOf place + 1) 0
+
+  -- "Absent codes have no columns"
+  unfoldable pub columnsAt : ℕ → ℕ
+  columnsAt place = cond (ltb 0 place) (columnsAcross place) 0
+
+  -- some character has a dot in a column of the raster, in a row of it
+  unfoldable pub columnUsed : ℕ → Bool
+  columnUsed j = someBelow chars (λ k. dotInColumn (charAt k) j)
+
+  unfoldable pub rowUsed : ℕ → Bool
+  rowUsed i = someBelow chars (λ k. dotInRow (charAt k) i)
+
   -- "the box words cover the dots of all characters together", in columns and rows of the raster
   unfoldable pub leftmost : ℕ
-  leftmost = firstBelow width (λ j. someBelow chars (λ k. dotInColumn (charAt k) j))
+  leftmost = firstBelow width columnUsed
 
   unfoldable pub rightmost : ℕ
-  rightmost = lastBelow width (λ j. someBelow chars (λ k. dotInColumn (charAt k) j))
+  rightmost = lastBelow width columnUsed
 
   unfoldable pub top : ℕ
-  top = firstBelow rows (λ i. someBelow chars (λ k. dotInRow (charAt k) i))
+  top = firstBelow rows rowUsed
 
   unfoldable pub bottom : ℕ
-  bottom = lastBelow rows (λ i. someBelow chars (λ k. dotInRow (charAt k) i))
+  bottom = lastBelow rows rowUsed
 
-  -- "In every character the dot at row i, column j is x = j - b, y = a - i. Spacing is the width word."
-  -- BBox is the x of a box's left column, FBBox the least of them, and "an empty character has BBox 0". The rows above the baseline
-  -- are those from top to a, for y from the greatest down to 0, and those below it go on to the bottom.
-  unfoldable pub drawingOf : Drawing
-  drawingOf =
+  -- What all characters share, by the place of code 65. "The origin: in code 65, take the lowest row with a dot and the leftmost dot in that
+  -- row, at row a and column b. In every character the dot at row i, column j is x = j - b, y = a - i." FBBox is the least x. The rows above
+  -- the baseline are those from top to a, for y from the greatest down to 0; those below it go on to the bottom.
+  unfoldable pub frameFrom : ℕ → Frame
+  frameFrom place =
+      let a = lowestOf place in
+      let b = firstInRow place a in
       record {
-        present = presentAt;
-        spacing = λ c. word ws (codePlace c + 1);
-        offset = λ c. cond (hasDot (codePlace c)) (leftOf (codePlace c)) originColumn - leftmost;
-        columns = λ c. cond (hasDot (codePlace c)) (rightOf (codePlace c) - leftOf (codePlace c) + 1) 0;
-        dot = λ c row column. rasterDot (codePlace c) (top + row) (leftOf (codePlace c) + column);
-        fbbox = (65536 + leftmost - originColumn) % 65536;
+        origin = b;
+        left = leftmost;
+        top = top;
+        fbbox = (65536 + leftmost - b) % 65536;
         fbbdx = rightmost - leftmost + 1;
-        ascent = originRow - top + 1;
-        descent = bottom - originRow;
+        ascent = a - top + 1;
+        descent = bottom - a;
       }
+
+  unfoldable pub frameOf : Frame
+  frameOf = frameFrom (codePlace 65)
+
+  unfoldable pub leftFrom : Frame → ℕ → ℕ
+  leftFrom frame place = cond (hasDot place) (leftOf place) (frame .origin)
+
+  -- What is drawn for each code, by the frame and the places. "Spacing is the width word." BBox is the x of the box's left column, and "an
+  -- empty character has BBox 0", which is column b.
+  unfoldable pub drawingFrom : Frame → List ℕ → Drawing
+  drawingFrom frame places =
+      record {
+        present = λ c. ltb 0 (word places c);
+        spacing = λ c. word ws (word places c + 1);
+        offset = λ c. leftFrom frame (word places c) - frame .left;
+        columns = λ c. columnsAcross (word places c);
+        dot = λ c row column. rasterDot (word places c) (frame .top + row) (leftOf (word places c) + column);
+        fbbox = frame .fbbox;
+        fbbdx = frame .fbbdx;
+        ascent = frame .ascent;
+        descent = frame .descent;
+      }
+
+  unfoldable pub drawingOf : Drawing
+  drawingOf = drawingFrom frameOf placesOf
+
+  -- the number of the file's refusal before its boxes are measured
+  unfoldable pub cuFileNumber : ℕ
+  cuFileNumber = firstOf ((badSize, 20) ∷ (badCount, 21) ∷ (badCode, 22) ∷ (noOrigin, 23) ∷ [])
+
+  -- what reading the file gives
+  unfoldable pub sourceOf : Source
+  sourceOf = cond (eqb cuFileNumber 0) (record { number = 0; places = placesOf; frame = frameOf }) (noSource cuFileNumber)

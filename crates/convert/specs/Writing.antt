@@ -5,7 +5,9 @@ use mathlib.Core.List.{List, [], _∷_, _++_}
 use lib.Dec.{ltb, eqb}
 use lib.ListN.{length}
 use Rattle.words.specs.Word.{wordOf, table}
+use Rattle.words.specs.Refusal.{firstOf}
 use Rattle.words.specs.Search.{someBelow, firstBelow, lastBelow, sumBelow, mostBelow}
+use Rattle.convert.specs.declared.Layout.{Layout}
 
 -- What is to be written. Each code from 0 to 255 is there or not; one that is there has its spacing, the columns of its own box, how far
 -- that box lies right of the font's box (BBox - FBBox), and a dot for each row of the font's box and column of its own.
@@ -50,6 +52,10 @@ module _ (d : Drawing) where
   -- "The dummy is FBBdx columns": the last pointer
   unfoldable pub allColumns : ℕ
   allColumns = pointerAt codeCount + d .fbbdx
+
+  -- "n + 2 column pointers for min to max + 2": the last one is the dummy's right edge
+  unfoldable pub pointerWord : ℕ → ℕ
+  pointerWord k = cond (ltb codeCount k) allColumns (pointerAt k)
 
   -- "Raster is the least that holds all columns"
   unfoldable pub rasterOf : ℕ
@@ -97,10 +103,7 @@ module _ (d : Drawing) where
       ∷ lengthWord ∷ d .ascent ∷ d .descent ∷ 0 ∷ rasterOf ∷ []
 
   unfoldable pub fileOf : List ℕ
-  fileOf = headerWords ++ table (rasterOf * fbbdy) bitmapWord ++ table (codeCount + 2) pointers ++ table (codeCount + 1) widthEntry
-    where
-      pointers : ℕ → ℕ
-      pointers k = cond (ltb codeCount k) allColumns (pointerAt k)
+  fileOf = headerWords ++ table (rasterOf * fbbdy) bitmapWord ++ table (codeCount + 2) pointerWord ++ table (codeCount + 1) widthEntry
 
   -- "In all raster × height + 2n + 16 words."
   unfoldable pub fileWords : ℕ
@@ -109,7 +112,7 @@ module _ (d : Drawing) where
   -- 24: "a spacing over 255, or offset and spacing both 255 (the entry would read as absent)"
   unfoldable pub badSpacing : Bool
   badSpacing =
-      someBelow 256 (λ c. d .present c && (ltb 255 (d .spacing c) || (eqb (d .offset c) 255 && eqb (d .spacing c) 255)))
+      someBelow 256 (λ c. d .present c && (ltb 255 (d .spacing c) || (eqb (d .spacing c) 255 && eqb (d .offset c) 255)))
 
   -- 25: "an offset over 255"
   unfoldable pub badOffset : Bool
@@ -122,3 +125,19 @@ module _ (d : Drawing) where
   -- 27: "output slice too short"
   unfoldable pub noRoom : ℕ → Bool
   noRoom room = ltb room fileWords
+
+  -- the number of its refusal, where the output has room for so many words
+  unfoldable pub drawingNumber : ℕ → ℕ
+  drawingNumber room = firstOf ((badSpacing, 24) ∷ (badOffset, 25) ∷ (tooLarge, 26) ∷ (noRoom room, 27) ∷ [])
+
+  -- the numbers that the file is laid out by
+  unfoldable pub layoutOf : Layout
+  layoutOf =
+      record {
+        min = minCode;
+        max = maxCode;
+        codes = codeCount;
+        columns = allColumns;
+        raster = rasterOf;
+        rows = fbbdy;
+      }

@@ -1,0 +1,71 @@
+-- `convert::cu::first_in_row` meets its contract: the loop stops at the first column of the row with a dot.
+-- Assumes nothing.
+use Prim.Native.Nat.{ℕ, _-_, _≤_}
+use mathlib.Core.Path.{_≡_, refl, sym, _∙_}
+use mathlib.Core.Bool.{false}
+use native.Mathlib.Omega.{arith}
+use denote.Ref.{now}
+use lib.Dec.{eqb}
+use borrow.Author.Tests.{eq-eqb, ne-eqb}
+use borrow.Author.Needs.{needs}
+use Rattle.words.specs.Search.{someBelow}
+use Rattle.convert.specs.Cu.{rasterDot, width, firstInRow}
+use Rattle.words.proofs.Search.{none-more, first-here, first-none}
+use Rattle.convert.proofs.cu.first_in_row.Statement.{statement}
+use Rattle.convert.proofs.cu.first_in_row.Tie as tie
+
+abbrev Inv-loop : tie.InvT-loop
+Inv-loop cu place i columns j₀ j = (j ≤ columns) × (someBelow j (λ (j : ℕ). eqb (rasterDot cu place i j) 1) ≡ false)
+
+abbrev μ-loop : tie.MeasureT-loop
+μ-loop cu place i columns j₀ j = columns - j
+
+width-requires : tie.Need-width-requires Inv-loop μ-loop
+width-requires c κs = search needs
+
+loop-holds : tie.Need-loop-holds Inv-loop μ-loop
+unfolding someBelow
+loop-holds c = (omega arith, refl)
+
+dot-requires : tie.Need-dot-requires Inv-loop μ-loop
+dot-requires c κs = search needs
+
+returns : tie.Need-returns Inv-loop μ-loop
+unfolding firstInRow
+returns c =
+    let b = c .before .before .before in
+    sym (first-here _ _ (b .loop .j) (omega arith) (b .loop .inv .1) (eq-eqb _ 1 (sym (c .before .dot .ensures) ∙ c .if1 .taken)))
+
+add-j : tie.Need-add-j Inv-loop μ-loop
+add-j c = omega arith
+
+loop-less : tie.Need-loop-less Inv-loop μ-loop
+loop-less c = omega arith
+
+loop-again : tie.Need-loop-again Inv-loop μ-loop
+loop-again c =
+    let b = c .before .before .before in
+    (omega arith, none-more _ (b .loop .j) (b .loop .inv .1) (ne-eqb _ 1 (λ h. c .if1 .left (c .before .dot .ensures ∙ h))))
+
+returns-2 : tie.Need-returns-2 Inv-loop μ-loop
+unfolding firstInRow
+returns-2 c =
+    let b = c .before in
+    let a = b .before .before .before .args in
+    let e : b .loop .j ≡ width (now (a .cu)) = omega arith in
+    b .before .width .ensures .0 ∙ sym (first-none _ _ (rw e at (b .loop .inv .1)))
+
+pub first-in-row-spec : {M : Type 1} → statement M
+first-in-row-spec =
+    tie.close
+    (tie.spec
+    Inv-loop
+    μ-loop
+    width-requires
+    loop-holds
+    dot-requires
+    returns
+    add-j
+    loop-less
+    loop-again
+    returns-2)
