@@ -28,11 +28,18 @@ pub enum Kind {
     Labels,
     Sheets,
     Cu,
+    Conversions,
 }
 
 impl Kind {
     #[cfg(test)]
-    pub const ALL: [Kind; 4] = [Kind::Fonts, Kind::Labels, Kind::Sheets, Kind::Cu];
+    pub const ALL: [Kind; 5] = [
+        Kind::Fonts,
+        Kind::Labels,
+        Kind::Sheets,
+        Kind::Cu,
+        Kind::Conversions,
+    ];
 
     pub fn named(name: &str) -> Option<Kind> {
         match name {
@@ -40,6 +47,7 @@ impl Kind {
             "labels" => Some(Kind::Labels),
             "sheets" => Some(Kind::Sheets),
             "cu" => Some(Kind::Cu),
+            "conversions" => Some(Kind::Conversions),
             _ => None,
         }
     }
@@ -50,6 +58,7 @@ impl Kind {
             Kind::Labels => Box::new(label_scenes::LabelScenes::default()),
             Kind::Sheets => Box::new(sheet_scenes::SheetScenes),
             Kind::Cu => Box::new(cu_scenes::CuScenes),
+            Kind::Conversions => Box::new(cu_scenes::ConversionScenes),
         }
     }
 }
@@ -62,4 +71,10 @@ pub fn write_list(kind: Kind, seed: u64, count: usize, list: &mut impl Write) ->
         list.write_all(scene.text().as_bytes())?;
     }
     Ok(())
+}
+
+/// Inputs of the conversion program. They go through its limits and the paper's in turn.
+pub fn program_inputs(seed: u64, count: usize) -> impl Iterator<Item = Vec<u8>> {
+    let mut random = Random::from_seed(seed);
+    (0..count).map(move |number| cu_scenes::program_input(&mut random, number))
 }

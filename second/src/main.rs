@@ -9,6 +9,7 @@ mod generate;
 mod label;
 mod list;
 mod panel;
+mod programs;
 mod refusal;
 mod replay;
 mod sheet;
@@ -16,13 +17,15 @@ mod sheet;
 mod tests;
 
 use std::io::{self, BufWriter, Write};
+use std::path::Path;
 use std::process::ExitCode;
 
 use coverage::Coverage;
 use replay::Stopped;
 
 const USAGE: &str = "usage: second replay < LIST > ANSWERS
-       second generate fonts|labels|sheets|cu SEED COUNT > LIST
+       second generate fonts|labels|sheets|cu|conversions SEED COUNT > LIST
+       second programs SEED COUNT DIRECTORY
        second coverage < ANSWERS";
 
 fn main() -> ExitCode {
@@ -31,6 +34,7 @@ fn main() -> ExitCode {
     let outcome = match arguments.as_slice() {
         ["replay"] => answer_list(),
         ["generate", kind, seed, count] => write_list(kind, seed, count),
+        ["programs", seed, count, directory] => write_programs(seed, count, directory),
         ["coverage"] => count_answers(),
         _ => Err(USAGE.to_string()),
     };
@@ -59,6 +63,12 @@ fn write_list(kind: &str, seed: &str, count: &str) -> Result<(), String> {
     generate::write_list(kind, seed, count, &mut list)
         .and_then(|()| list.flush())
         .map_err(|error| error.to_string())
+}
+
+fn write_programs(seed: &str, count: &str, directory: &str) -> Result<(), String> {
+    let seed = seed.parse().map_err(|_| USAGE)?;
+    let count = count.parse().map_err(|_| USAGE)?;
+    programs::write_files(seed, count, Path::new(directory)).map_err(|error| error.to_string())
 }
 
 fn count_answers() -> Result<(), String> {

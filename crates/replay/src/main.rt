@@ -1,4 +1,5 @@
 // Answers a written list of calls, read on standard input, as docs/REPLAY.md says.
+mod convert_calls;
 mod font_calls;
 mod label_calls;
 mod list;
@@ -22,9 +23,9 @@ use text::TEXT;
 const LABEL: usize = 1_000;
 
 // What the registers hold, and how much text waits to be written.
-struct State {
-    held: Held,
-    at: usize,
+pub struct State {
+    pub held: Held,
+    pub at: usize,
 }
 
 // Performs a line.
@@ -53,8 +54,10 @@ fn perform(
         text,
         state.at,
     );
+    let state = convert_calls::answer(line, values, State { held, at }, files, lent, text);
+    let held = state.held;
     let font = registers::held_words(files, held, names::FONT);
-    let at = font_calls::answer(line, font, text, at);
+    let at = font_calls::answer(line, font, text, state.at);
     let mut codes = [0u8; LABEL];
     let count = registers::narrow(values, line.values, &mut codes);
     let label = text::start(&codes, count);

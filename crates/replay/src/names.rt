@@ -48,6 +48,11 @@ pub const JOIN: u64 = 10_15_09_14;
 
 pub const APPLY: u64 = 01_16_16_12_25;
 
+// convert, written
+pub const CONVERT: u64 = 03_15_14_22_05_18_20;
+
+pub const WRITTEN: u64 = 23_18_09_20_20_05_14;
+
 fn letter(b: u8) -> u64
     ensures { λ r. ⌜ r ≤ 255 ⌝ }
 {

@@ -1,6 +1,6 @@
 // The registers share arrays, each from a place of its own and with room for the most that it may hold: `font` and `cu` stand in `files`,
 // `panel` and `out` in `lent`, `keep1` and `keep2` in `keeps`, `flip1` and `flip2` in `flips`, and the bytes of `file` by themselves.
-// No call but `join` is lent two registers of one array.
+// No call but `join` is lent two registers of one array. Behind the registers in `files` stand the words that the last conversion wrote.
 use crate::list::Line;
 use crate::list::VALUES;
 use crate::list::least;
@@ -10,7 +10,12 @@ use crate::text::put;
 use crate::text::put_list;
 use crate::text::put_name;
 
-pub const FILES: usize = 600_000;
+pub const FILES: usize = 670_000;
+
+// Where the words written stand, and the most that they are.
+const WRITTEN: usize = 600_000;
+
+const MOST_WRITTEN: usize = 70_000;
 
 pub const LENT: usize = 110_000;
 
@@ -38,9 +43,10 @@ struct Register {
     number: usize,
 }
 
-// How many words each register holds; of `file`, bytes.
+// How many words each register holds, of `file` bytes; and how many the last conversion wrote.
 pub struct Held {
     counts: [usize; 9],
+    written: usize,
 }
 
 impl Register {
@@ -71,7 +77,10 @@ impl Register {
 
 impl Held {
     pub fn nothing() -> Held {
-        Held { counts: [0; 9] }
+        Held {
+            counts: [0; 9],
+            written: 0,
+        }
     }
 
     fn of(self, register: Register) -> usize {
@@ -87,6 +96,11 @@ impl Held {
         if number < 9 {
             self.counts[number] = count;
         }
+        self
+    }
+
+    fn with_written(mut self, count: usize) -> Held {
+        self.written = count;
         self
     }
 }
@@ -213,4 +227,18 @@ pub fn lent_words(array: &mut [u16], held: Held, name: u64) -> &mut [u16] {
     let from = least(r.from, array.len());
     let upto = from + least(held.of(r), array.len() - from);
     &mut array[from..upto]
+}
+
+// Keeps the words that a conversion wrote, the first `count` of `out`, for `out` may be set before they are asked for.
+pub fn keep_written(held: Held, count: usize, lent: &[u16], files: &mut [u16]) -> Held {
+    let out = held_words(lent, held, names::OUT);
+    held.with_written(copy(out, count, files, WRITTEN, MOST_WRITTEN))
+}
+
+// Makes the words kept the font. They go by way of the place of a line's values, since both stand in one array.
+pub fn font_from_written(held: Held, values: &mut [u16; VALUES], files: &mut [u16]) -> Held {
+    let kept = words::part(files, WRITTEN, held.written);
+    let count = copy(kept, MOST_WRITTEN, values, 0, MOST_WRITTEN);
+    let font = Register::named(names::FONT);
+    held.with(font, copy(values, count, files, font.from, font.room))
 }

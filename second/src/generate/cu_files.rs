@@ -153,6 +153,24 @@ fn give_a_dot(random: &mut Random, raster: &mut [u16]) {
     }
 }
 
+/// Rasters of many rows and columns, up to the most, with few dots in each.
+pub fn large_file(random: &mut Random) -> CuFile {
+    let height = random.between(16, 128) as u16;
+    let word_width = random.between(4, 16) as u16;
+    let mut file = CuFile::new(height, word_width);
+    let mut codes = random_codes(random);
+    random.shuffle(&mut codes);
+    for code in codes {
+        let mut raster = vec![0; file.raster_words];
+        for _ in 0..random.below(6) {
+            give_a_dot(random, &mut raster);
+        }
+        file.add(code, random_spacing(random), raster);
+    }
+    give_a_dot(random, &mut file.letter_a().raster);
+    file
+}
+
 pub fn damaged_file(random: &mut Random, turn: usize) -> CuFile {
     let mut file = good_file(random);
     let damage = DAMAGES[turn % DAMAGES.len()];

@@ -2,7 +2,7 @@
 
 use super::cu_files::{
     damaged_file, file_of_most_bytes, file_of_most_columns, file_of_most_output,
-    file_of_odd_output, good_file, special_file, CuFile,
+    file_of_odd_output, good_file, large_file, special_file, CuFile,
 };
 use super::font_files::{any_font, MadeFont};
 use super::font_scenes::ask_for_pictures;
@@ -31,6 +31,21 @@ impl Scenes for CuScenes {
                 convert_scene(random, &cu, &mut scene);
             }
         }
+        scene
+    }
+}
+
+/// Conversions alone, which both programs answer, and labels painted from what they write.
+pub struct ConversionScenes;
+
+impl Scenes for ConversionScenes {
+    fn next(&mut self, random: &mut Random, number: usize) -> Scene {
+        let mut scene = Scene::default();
+        let cu = match number % 6 {
+            5 => large_file(random).words(),
+            case => convertible_words(random, case, number / 6),
+        };
+        convert_scene(random, &cu, &mut scene);
         scene
     }
 }
@@ -131,7 +146,7 @@ fn program_scene(random: &mut Random, turn: usize, scene: &mut Scene) {
 }
 
 /// Every fourth input is odd in its number of bytes, and small.
-fn program_input(random: &mut Random, turn: usize) -> Vec<u8> {
+pub fn program_input(random: &mut Random, turn: usize) -> Vec<u8> {
     let words = match turn % 16 {
         0 => return too_many_bytes(random, turn / 16),
         1 => file_of_most_bytes(random).words(),

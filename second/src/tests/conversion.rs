@@ -1,9 +1,14 @@
 //! Written files against the rasters they come from, by index into the CU words alone.
 
+use super::generated::generated;
 use crate::cu::convert;
 use crate::font::{read, Font};
 use crate::generate::cu_files::{good_file, special_file, SPECIALS};
 use crate::generate::random::Random;
+use crate::generate::Kind;
+use crate::label::Call;
+use crate::list::{parse, words_text, Command, Register};
+use crate::replay::Replay;
 
 /// A character's words, its dots counted from the raster's corner.
 struct Raster<'a> {
@@ -88,18 +93,34 @@ fn compare(cu: &[u16], written: &[u16]) {
     compare_absent_codes(written, &font, &rasters);
 }
 
-/// The box words, and the dummy, which fills the box.
-fn compare_box(written: &[u16], font: &Font, dots: &[(i64, i64)]) {
+/// The least box around the dots: its left, right, bottom and top.
+fn least_box(dots: &[(i64, i64)]) -> [i64; 4] {
     let xs = dots.iter().map(|dot| dot.0);
     let ys = dots.iter().map(|dot| dot.1);
-    let (left, right) = (xs.clone().min().unwrap(), xs.max().unwrap());
-    let (bottom, top) = (ys.clone().min().unwrap(), ys.max().unwrap());
+    [
+        xs.clone().min().unwrap(),
+        xs.max().unwrap(),
+        ys.clone().min().unwrap(),
+        ys.max().unwrap(),
+    ]
+}
+
+/// Every place in that box, which is what the dummy shows.
+fn filled_box(dots: &[(i64, i64)]) -> Vec<(i64, i64)> {
+    let [left, right, bottom, top] = least_box(dots);
+    (left..=right)
+        .flat_map(|x| (bottom..=top).map(move |y| (x, y)))
+        .collect()
+}
+
+/// The box words, and the dummy.
+fn compare_box(written: &[u16], font: &Font, dots: &[(i64, i64)]) {
+    let [left, right, bottom, top] = least_box(dots);
     let box_words = [left, bottom, right - left + 1, top - bottom + 1];
     assert_eq!(written[4..8], box_words.map(|number| number as i16 as u16));
     assert_eq!(font.ascent(), top + 1);
     assert_eq!(font.height(), top - bottom + 1);
-    let all_places = (left..=right).flat_map(|x| (bottom..=top).map(move |y| (x, y)));
-    assert!(dots_shown(font, 256).into_iter().eq(all_places));
+    assert_eq!(dots_shown(font, 256), filled_box(dots));
 }
 
 fn compare_spacings(written: &[u16], rasters: &[Raster]) {
@@ -162,4 +183,87 @@ fn an_output_one_word_short_is_refused_and_stays() {
         assert_eq!(convert(&cu, &mut short).map_err(|r| r.0), Err(27));
         assert!(short.iter().all(|&word| word == 0xEEEE));
     }
+}
+
+/// The commands of the list of conversions that both programs answer.
+fn conversions() -> Vec<Command> {
+    let list = generated(Kind::Conversions, 1980, 3_000);
+    list.lines()
+        .filter_map(|line| parse(line).unwrap())
+        .collect()
+}
+
+#[test]
+fn the_files_of_the_list_show_the_dots_of_their_rasters() {
+    let accepted = conversions().into_iter().filter(|command| match command {
+        Command::SetWords(Register::Cu, cu) => convert_and_compare(cu),
+        _ => false,
+    });
+    assert!(accepted.count() > 1_500);
+}
+
+/// Paints a label by the rasters alone, with no font between, and says what the call answers.
+fn paint_rasters(cu: &[u16], call: &Call, panel: &mut [u16]) -> String {
+    let rasters = Raster::all(cu);
+    let dots = dots_from_origin(&rasters);
+    let block = filled_box(&dots.concat());
+    let greatest = rasters.iter().map(|raster| raster.spacing).max().unwrap();
+    let (mut pen, mut substitutes) = (call.x, 0);
+    for &code in &call.label {
+        let drawn = rasters.iter().zip(&dots);
+        let mut drawn = drawn.filter(|(raster, _)| raster.code == i64::from(code));
+        let (dots, spacing) = match drawn.next() {
+            Some((raster, dots)) => (dots, raster.spacing),
+            None => {
+                substitutes += 1;
+                (&block, greatest)
+            }
+        };
+        for (x, y) in dots {
+            change_dot(call, panel, pen + x, call.y - 1 - y);
+        }
+        pen += spacing;
+    }
+    format!("paint 0 {pen} {substitutes}")
+}
+
+fn change_dot(call: &Call, panel: &mut [u16], x: i64, row: i64) {
+    let shape = call.shape;
+    if x < 0 || x >= shape.strip_width || row < 0 || row >= shape.rows {
+        return;
+    }
+    let column = call.strip * shape.strip_width + x;
+    let word = &mut panel[(row * shape.words_per_row + column / 16) as usize];
+    let mask = 0x8000 >> (column % 16);
+    match call.mode {
+        0 => *word |= mask,
+        1 => *word &= !mask,
+        _ => *word ^= mask,
+    }
+}
+
+#[test]
+fn the_labels_of_the_list_paint_the_dots_of_the_rasters() {
+    let mut replay = Replay::default();
+    let (mut cu, mut panel) = (Vec::new(), Vec::new());
+    let (mut painted, mut altered) = (0, 0);
+    for command in conversions() {
+        match &command {
+            Command::SetWords(Register::Cu, words) => cu = words.clone(),
+            Command::SetWords(Register::Panel, words) => panel = words.clone(),
+            Command::Paint(call) => {
+                let before = panel.clone();
+                let expected = paint_rasters(&cu, call, &mut panel);
+                assert_eq!(replay.perform(command), Some(expected));
+                let shown = replay.perform(Command::Show(Register::Panel));
+                assert_eq!(shown, Some(format!("panel{}", words_text(&panel))));
+                painted += 1;
+                altered += usize::from(panel != before);
+                continue;
+            }
+            _ => (),
+        }
+        replay.perform(command);
+    }
+    assert!(painted > 3_000 && altered > 1_000, "{painted} {altered}");
 }

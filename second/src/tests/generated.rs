@@ -4,10 +4,12 @@ use std::collections::BTreeSet;
 
 use super::answers_to;
 use crate::coverage::Coverage;
+use crate::cu::program;
 use crate::generate::sheet_scenes::{ONE_LIST, ONE_LIST_ENDS};
-use crate::generate::{write_list, Kind};
+use crate::generate::{program_inputs, write_list, Kind};
+use crate::refusal::number_of;
 
-fn generated(kind: Kind, seed: u64, count: usize) -> String {
+pub fn generated(kind: Kind, seed: u64, count: usize) -> String {
     let mut list = Vec::new();
     write_list(kind, seed, count, &mut list).expect("a vector takes all bytes");
     String::from_utf8(list).expect("a list is ASCII")
@@ -62,6 +64,26 @@ fn every_refusal_appears_and_no_other() {
     for (kind, numbers) in expected {
         assert_eq!(coverage.numbers(kind), numbers, "{kind}");
     }
+}
+
+#[test]
+fn every_refusal_of_a_conversion_appears_and_no_other() {
+    let answers = answers_to(&generated(Kind::Conversions, 1980, 3_000)).unwrap();
+    let coverage = Coverage::of(answers.as_bytes()).unwrap();
+    assert_eq!(coverage.numbers("convert"), [0, 20, 21, 22, 23, 24, 26, 27]);
+    assert_eq!(coverage.numbers("paint"), [0]);
+    for only_here in ["program", "deskcheck", "deskmeasure"] {
+        assert!(coverage.numbers(only_here).is_empty(), "{only_here}");
+    }
+}
+
+#[test]
+fn every_refusal_of_the_program_appears_and_no_other() {
+    let numbers: BTreeSet<u32> = program_inputs(1980, 432)
+        .map(|input| number_of(&program(&input)))
+        .collect();
+    let expected = [0, 14, 20, 21, 22, 23, 24, 26, 27];
+    assert_eq!(numbers, BTreeSet::from(expected));
 }
 
 /// What all registers whose name begins so were shown to hold.
