@@ -11,6 +11,7 @@ use borrow.Author.Tests.{leb-true, ltb-true, ltb-false, le-leb, lt-ltb, le-ltb, 
 use Rattle.words.specs.Word.{word, bitOf, wordOf, putBit, over}
 use Rattle.words.proofs.Digits.{bit-digit}
 use Rattle.words.proofs.Bits.{bit-word-of, word-of-same, ext-bits, word-of-lt}
+use Rattle.words.proofs.Passed.{both}
 use Rattle.words.proofs.Over.{over-at, over-one, over-over, over-same}
 use Rattle.words.proofs.Rows.{row-of, word-of-row}
 use Rattle.convert.specs.declared.Picture.{Picture}
@@ -60,10 +61,6 @@ module _ (ws : List ℕ) (picture : Picture) (column at raster : ℕ) (inside : 
       ∙ ap (set (over n put bitmap) (n + a)) (here row)
 
 -- ---- a picture, column by column
-
-both-of : (s t : Bool) → (s && t) ≡ true → (s ≡ true) × (t ≡ true)
-both-of true t e = (refl, e)
-both-of false t e = absurd (true≢false (sym e))
 
 -- no column lies from `at` up to `at`
 no-column : (at column dot old : ℕ) → cond (leb at column && ltb column (at + 0)) dot old ≡ old
@@ -120,9 +117,9 @@ module _ (ws : List ℕ) (picture : Picture) (at raster : ℕ) (bitmap : List �
   unfolding pictureBit
   more c i j less =
       one-column at c (16 * (i % raster) + j) (pictureDot ws picture (i / raster)) _ _
-      (λ t. let both = both-of (eqb (i % raster) ((at + c) / 16)) (eqb j ((at + c) % 16)) t in
-      let w = eqb-true (i % raster) ((at + c) / 16) (both .0) in
-      let k = eqb-true j ((at + c) % 16) (both .1) in
+      (λ t. let same = both (eqb (i % raster) ((at + c) / 16)) (eqb j ((at + c) % 16)) t in
+      let w = eqb-true (i % raster) ((at + c) / 16) (same .0) in
+      let k = eqb-true j ((at + c) % 16) (same .1) in
       omega arith)
       (λ e. ap₂ (λ (s t : Bool). s && t)
       (eq-eqb (i % raster) ((at + c) / 16) (omega arith))

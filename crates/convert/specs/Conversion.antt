@@ -32,10 +32,13 @@ unfoldable pub outputAfter : List ℕ → List ℕ → List ℕ
 outputAfter ws out =
     cond (eqb (cuNumber ws (length out)) 0) (fileOf (drawingOf ws) ++ drop (fileWords (drawingOf ws)) out) out
 
--- the program: "Over 65,536 bytes is refused 21, before 14; its output holds 32,768 words."
+-- the program: "Over 65,536 bytes is refused 21, before 14"
+unfoldable pub bytesNumber : List ℕ → ℕ
+bytesNumber bytes = firstOf ((ltb 65536 (length bytes), 21) ∷ (oddBytes bytes, 14) ∷ [])
+
+-- "its output holds 32,768 words"
 unfoldable pub programNumber : List ℕ → ℕ
-programNumber bytes =
-    orElse (firstOf ((ltb 65536 (length bytes), 21) ∷ (oddBytes bytes, 14) ∷ [])) (cuNumber (wordsOf bytes) 32768)
+programNumber bytes = orElse (bytesNumber bytes) (cuNumber (wordsOf bytes) 32768)
 
 -- "writes the KernedStrike bytes, nothing else"; "A refusal writes nothing to standard output"
 unfoldable pub programOutput : List ℕ → List ℕ

@@ -18,11 +18,11 @@ use Rattle.convert.specs.declared.Conversion.{Conversion}
 use Rattle.convert.specs.declared.Conversion.the-variants.{Written, Refused}
 use Rattle.convert.specs.Writing.{fileOf, fileWords, drawingNumber}
 use Rattle.convert.specs.Cu.{drawingOf, cuFileNumber}
-use Rattle.convert.specs.Conversion.{cuNumber, conversionOf, conversionNumber, wordsWritten, outputAfter, programNumber, programOutput}
+use Rattle.convert.specs.Conversion.{bytesNumber, cuNumber, conversionOf, conversionNumber, wordsWritten, outputAfter, programNumber, programOutput}
 use Rattle.convert.proofs.File.{file-length}
 use Rattle.convert.proofs.Accepting.{good-drawing}
 use Rattle.cu2ks.specs.declared.Answer.{Answer}
-use Rattle.cu2ks.specs.Program.{bytesNumber, answerOf}
+use Rattle.cu2ks.specs.Program.{answerOf}
 
 -- the words that stand first where bytes have been read into a list with room for them
 pub spelt : (n : ℕ) (bytes before after : List ℕ) → length bytes / 2 ≤ length after
@@ -47,7 +47,7 @@ module _ (bytes : List ℕ) where
 
   -- the number of bytes is refused
   pub bytes-refused : (n : ℕ) → n ≡ bytesNumber bytes → (n ≡ 0 → ⊥) → n ≡ programNumber bytes
-  unfolding programNumber bytesNumber
+  unfolding programNumber
   bytes-refused n e h = stage-stops n (bytesNumber bytes) (cuNumber ws 32768) e h
 
   pub few-bytes : bytesNumber bytes ≡ 0 → length bytes ≤ 65536
@@ -56,7 +56,7 @@ module _ (bytes : List ℕ) where
 
   -- it is not, and what the words give is the answer
   bytes-passed : (n : ℕ) → bytesNumber bytes ≡ 0 → n ≡ cuNumber ws 32768 → n ≡ programNumber bytes
-  unfolding programNumber bytesNumber
+  unfolding programNumber
   bytes-passed n z e = stage-goes-on n (bytesNumber bytes) (bytesNumber bytes) (cuNumber ws 32768) refl z e
 
   nothing-printed : (n : ℕ) → n ≡ programNumber bytes → (n ≡ 0 → ⊥) → programOutput bytes ≡ []

@@ -9,8 +9,8 @@ ghost use mathlib.Core.List.{_++_};
 ghost use lib.ListN.{length, drop};
 ghost use Rattle.io.specs.Counts.{Counts};
 ghost use Rattle.words.specs.Word.{wordsOf};
-ghost use Rattle.convert.specs.Conversion.{conversionOf, outputAfter, programOutput};
-ghost use Rattle.cu2ks.specs.Program.{bytesNumber, answerOf};
+ghost use Rattle.convert.specs.Conversion.{conversionOf, outputAfter, bytesNumber, programOutput};
+ghost use Rattle.cu2ks.specs.Program.{answerOf};
 
 // The most bytes that are taken, and one more: a longer input is refused without being read to its end.
 const INPUT: usize = 65_537;

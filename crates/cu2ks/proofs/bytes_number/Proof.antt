@@ -2,7 +2,7 @@
 use Rattle.words.specs.Word.{oddBytes}
 use Rattle.words.specs.Refusal.{firstOf}
 use Rattle.words.proofs.Chain.{chain}
-use Rattle.cu2ks.specs.Program.{bytesNumber}
+use Rattle.convert.specs.Conversion.{bytesNumber}
 use Rattle.cu2ks.proofs.bytes_number.Statement.{statement}
 use Rattle.cu2ks.proofs.bytes_number.Tie as tie
 
