@@ -13,8 +13,10 @@ use Rattle.words.proofs.Bits.{bit-word-of}
 use Rattle.words.proofs.Rows.{row-of, word-of-row, row-room}
 use Rattle.fonts.specs.declared.Glyph.{Glyph}
 use Rattle.fonts.specs.Strike.{bitmapAt, fileSum}
-use Rattle.fonts.specs.Reading.{tooShort, badFormat, kernedTooShort, badCodes, badBox, badSizes, badLength, badPointers, noDummy, headerNumber, tableNumber, fontNumber, accepted}
-use Rattle.fonts.specs.Face.{existsAt, exists, shownAt, columnsAt, placeAt, advanceAt, glyphFrom, dotOf, faceFrom, faceOf}
+use Rattle.fonts.specs.Reading.{tooShort, badFormat, kernedTooShort, badCodes, badBox, badSizes, badLength, badPointers, fallsFrom, noDummy, headerNumber, tableNumber, fontNumber, accepted}
+use Rattle.fonts.specs.declared.Entry.{Entry}
+use Rattle.fonts.specs.Entry.{entryAt, present, columnsOf, leftOf, advanceOf}
+use Rattle.fonts.specs.Face.{exists, shown, glyphBy, glyphFrom, dotOf, faceFrom, faceOf}
 use Rattle.fonts.proofs.Falling.{rising}
 use Rattle.convert.specs.Writing.{Drawing, minCode, maxCode, codeCount, fbbdy, rasterOf, pointerAt, allColumns, maxWidth, lengthWord, strikeDot, bitmapWord, pointerWord, fileOf, fileWords}
 use Rattle.convert.proofs.File.{pointersWritten, widthsWritten, file-length, file-bitmap}
@@ -37,6 +39,10 @@ pointers-rise d k = past-or-not (ltb (codeCount d) k) refl (ltb (codeCount d) (s
     past-or-not true p false q = absurd (omega (arith, ltb-true (codeCount d) k p, ltb-false (codeCount d) (suc k) q))
     past-or-not false p true q = omega (arith, pointer-rises d k (codeCount d) (ltb-false (codeCount d) k p))
     past-or-not false p false q = pointer-rises d k (suc k) (omega arith)
+
+-- what the two tables say at a place
+abbrev entryWritten : Drawing → ℕ → Entry
+entryWritten d k = entryAt (pointersWritten d) (widthsWritten d) k
 
 module _ (d : Drawing) (s : Sound d) where
   -- ---- the tests of the reader, in the order of the table
@@ -74,23 +80,23 @@ module _ (d : Drawing) (s : Sound d) where
   unfolding headerNumber firstOf
   header-accepted = rw (not-short, good-format, long-enough, good-codes, good-sizes, good-length)
 
-  good-pointers : badPointers (headerWritten d) (pointersWritten d) ≡ false
+  good-pointers : badPointers (headerWritten d) (fallsFrom 0 (pointersWritten d)) (entryWritten d (codeCount d)) ≡ false
   unfolding badPointers codeCount
   good-pointers =
       rw (rising (codeCount d + 2) 0 (pointerWord d) (omega arith) (pointers-rise d), pointer-end d, le-ltb (16 * rasterOf d) (allColumns d) (raster-holds d))
 
-  has-dummy : noDummy (headerWritten d) (pointersWritten d) (widthsWritten d) ≡ false
-  unfolding noDummy codeCount
+  has-dummy : noDummy (headerWritten d) (entryWritten d (codeCount d)) ≡ false
+  unfolding noDummy present codeCount
   has-dummy =
       let narrow = max-width-small d s in
       rw (format-kerned d, entry-dummy d, ne-eqb (maxWidth d) 0xFFFF (λ e. omega arith))
 
-  tables-accepted : tableNumber (headerWritten d) (pointersWritten d) (widthsWritten d) ≡ 0
+  tables-accepted : tableNumber (headerWritten d) (fallsFrom 0 (pointersWritten d)) (entryWritten d (codeCount d)) ≡ 0
   unfolding tableNumber firstOf
   tables-accepted = rw (good-pointers, has-dummy)
 
   pub written-accepted : fontNumber (fileOf d) ≡ 0
-  unfolding fontNumber orElse
+  unfolding fontNumber orElse codeCount
   written-accepted = rw (header-read d, file-length d, pointers-read d, widths-read d, header-accepted, tables-accepted)
 
   pub written-font : accepted (fileOf d) ≡ true
@@ -141,22 +147,22 @@ module _ (d : Drawing) (s : Sound d) (c : ℕ) (h : c < 256) (there : d .present
   own-bytes : (word (widthsWritten d) k / 256 ≡ d .offset c) × (word (widthsWritten d) k % 256 ≡ d .spacing c)
   own-bytes = bytes (word (widthsWritten d) k) (d .offset c) (d .spacing c) own-entry (spacing-small d s c h there)
 
-  columns-shown : columnsAt (pointersWritten d) k ≡ d .columns c
-  unfolding columnsAt
+  columns-shown : columnsOf (entryWritten d k) ≡ d .columns c
+  unfolding columnsOf
   columns-shown =
       let less = in-tables d c there h in
       let next = pointer-next d k in
       let own = own-columns d c there in
       rw (pointer-at d (k + 1) (omega arith), pointer-at d k (omega arith)) (omega arith)
 
-  own-exists : exists (headerWritten d) (pointersWritten d) (widthsWritten d) c ≡ true
-  unfolding exists existsAt
+  own-exists : exists (headerWritten d) (entryWritten d k) c ≡ true
+  unfolding exists present
   own-exists =
       let small = entry-small d s c h there in
       rw (le-leb (minCode d) c (from-min d c there), le-leb c (maxCode d) (upto-max d c there h), format-kerned d, own-entry, ne-eqb (d .offset c * 256 + d .spacing c) 0xFFFF (λ e. omega arith))
 
   pub written-glyph : faceOf (fileOf d) .glyph c ≡ ownGlyph d c
-  unfolding faceOf faceFrom glyphFrom shownAt placeAt advanceAt bitmapAt fbbdy
+  unfolding faceOf faceFrom glyphFrom glyphBy shown leftOf advanceOf bitmapAt fbbdy
   written-glyph =
       let less = in-tables d c there h in
       rw (header-read d, pointers-read d, widths-read d, own-exists, format-kerned d)
@@ -173,8 +179,8 @@ module _ (d : Drawing) (s : Sound d) (c : ℕ) (h : c < 256) (there : d .present
       })
 
 module _ (d : Drawing) (s : Sound d) where
-  dummy-columns : columnsAt (pointersWritten d) (codeCount d) ≡ d .fbbdx
-  unfolding columnsAt allColumns
+  dummy-columns : columnsOf (entryWritten d (codeCount d)) ≡ d .fbbdx
+  unfolding columnsOf allColumns
   dummy-columns = rw (pointer-end d, pointer-at d (codeCount d) (omega arith)) (omega arith)
 
   dummy-bytes : (word (widthsWritten d) (codeCount d) / 256 ≡ 0) × (word (widthsWritten d) (codeCount d) % 256 ≡ maxWidth d)
@@ -186,25 +192,25 @@ module _ (d : Drawing) (s : Sound d) where
   -- every other code: one that is past 255, or is not there
   module _ (c : ℕ) (none : c < 256 → d .present c ≡ false) where
     -- it lies outside min to max, or its entry says that it is absent
-    absent-entry : minCode d ≤ c → c ≤ maxCode d → existsAt (headerWritten d) (pointersWritten d) (widthsWritten d) (c - minCode d) ≡ false
-    unfolding existsAt codeCount
+    absent-entry : minCode d ≤ c → c ≤ maxCode d → present (headerWritten d) (entryWritten d (c - minCode d)) ≡ false
+    unfolding present codeCount
     absent-entry from upto =
         let small = max-small d s in
         let code : minCode d + (c - minCode d) ≡ c = omega arith in
         rw (format-kerned d, entry-at d (c - minCode d) (omega arith), code, none (omega arith))
 
-    not-there : exists (headerWritten d) (pointersWritten d) (widthsWritten d) c ≡ false
+    not-there : exists (headerWritten d) (entryWritten d (c - minCode d)) c ≡ false
     unfolding exists
     not-there = within-or-not (leb (minCode d) c) refl (leb c (maxCode d)) refl
       where
         within-or-not : (p : Bool) → leb (minCode d) c ≡ p → (q : Bool) → leb c (maxCode d) ≡ q
-            → (p && q && existsAt (headerWritten d) (pointersWritten d) (widthsWritten d) (c - minCode d)) ≡ false
+            → (p && q && present (headerWritten d) (entryWritten d (c - minCode d))) ≡ false
         within-or-not false from q upto = refl
         within-or-not true from false upto = refl
         within-or-not true from true upto = absent-entry (leb-true (minCode d) c from) (leb-true c (maxCode d) upto)
 
     pub written-dummy : faceOf (fileOf d) .glyph c ≡ dummyGlyph d
-    unfolding faceOf faceFrom glyphFrom shownAt placeAt advanceAt bitmapAt fbbdy codeCount
+    unfolding faceOf faceFrom glyphFrom glyphBy shown leftOf advanceOf bitmapAt fbbdy codeCount
     written-dummy =
         rw (header-read d, pointers-read d, widths-read d, not-there, format-kerned d)
         (λ i. record {

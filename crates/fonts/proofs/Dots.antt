@@ -1,17 +1,16 @@
--- What every dot and every code promises.
+-- What every dot promises.
 use Prim.Native.Nat.{ℕ, _+_, _*_, _/_, _%_, _<_, _≤_}
-use mathlib.Core.Path.{_≡_, refl}
+use mathlib.Core.Path.{_≡_}
 use mathlib.Core.Bool.{Bool, true, false, cond, _&&_}
 use mathlib.Core.List.{List}
 use native.Mathlib.Omega.{arith}
 use native.Mathlib.Nat.{mul-le-mul}
-use lib.Dec.{leb, ltb}
-use borrow.Author.Tests.{leb-true, le-ltb}
+use lib.Dec.{ltb}
+use borrow.Author.Tests.{le-ltb}
 use Rattle.words.specs.Word.{word}
 use Rattle.words.proofs.Digits.{bit-digit}
-use Rattle.fonts.specs.declared.Header.{Header}
 use Rattle.fonts.specs.declared.Glyph.{Glyph}
-use Rattle.fonts.specs.Face.{exists, dotOf}
+use Rattle.fonts.specs.Face.{dotOf}
 
 choice-lt : (t : Bool) (x n : ℕ) → x < n → cond t x 0 < n
 choice-lt true x n h = h
@@ -23,15 +22,6 @@ unfolding dotOf
 dot-bit ws g r j =
     choice-lt (ltb r (g .height) && ltb j (g .columns)) _ 2
     (bit-digit (word ws (g .bitmap + r * g .raster + (g .first + j) / 16)) ((g .first + j) % 16))
-
-first-of-three : (s t u : Bool) → ((s && t) && u) ≡ true → s ≡ true
-first-of-three true t u e = refl
-first-of-three false t u e = e
-
--- a code that exists is not below min
-pub exists-from : (h : Header) (pointers widths : List ℕ) (c : ℕ) → exists h pointers widths c ≡ true → h .min ≤ c
-unfolding exists
-exists-from h pointers widths c e = leb-true (h .min) c (first-of-three (leb (h .min) c) _ _ e)
 
 -- the dots of a row from a column on, as the bits of a word
 abbrev pub dotsFrom : List ℕ → Glyph → ℕ → ℕ → ℕ → ℕ

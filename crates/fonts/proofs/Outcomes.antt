@@ -8,8 +8,14 @@ use Rattle.words.proofs.Outcomes.{OneReply}
 use Rattle.fonts.proofs.Header.of as header-of
 use Rattle.fonts.proofs.pointers as pointers
 use Rattle.fonts.proofs.widths as widths
+use Rattle.fonts.proofs.Header.codes as codes
+use Rattle.fonts.proofs.Header.place as place
+use Rattle.fonts.proofs.Header.pointers_at as pointers-at
+use Rattle.fonts.proofs.header_number as header-number
+use Rattle.fonts.proofs.table_number as table-number
 use Rattle.fonts.proofs.number as number
 use Rattle.fonts.proofs.read as read
+use Rattle.fonts.proofs.Glyph.by as glyph-by
 use Rattle.fonts.proofs.Glyph.of as glyph-of
 use Rattle.fonts.proofs.Glyph.dots as dots
 use Rattle.fonts.proofs.row as row
@@ -25,11 +31,29 @@ pub widths-one : (κs : Lfts 1) (a : Dens κs widths.Kinds.ps) (r o : resT width
     → widths.Reads.Post κs a r e → widths.Reads.Post κs a o e′ → now r ≡ now o
 widths-one κs a r o e e′ p q = p ∙ sym q
 
+pub codes-one : OneReply 0 codes.Kinds.ps codes.Kinds.r codes.Reads.Post
+codes-one κs a r o e e′ p q = p ∙ sym q
+
+pub place-one : OneReply 0 place.Kinds.ps place.Kinds.r place.Reads.Post
+place-one κs a r o e e′ p q = p ∙ sym q
+
+pub header-number-one : OneReply 0 header-number.Kinds.ps header-number.Kinds.r header-number.Reads.Post
+header-number-one κs a r o e e′ p q = p ∙ sym q
+
+pub table-number-one : OneReply 0 table-number.Kinds.ps table-number.Kinds.r table-number.Reads.Post
+table-number-one κs a r o e e′ p q = p ∙ sym q
+
+pub pointers-at-one : OneReply 0 pointers-at.Kinds.ps pointers-at.Kinds.r pointers-at.Reads.Post
+pointers-at-one κs a r o e e′ p q = p .0 ∙ sym (q .0)
+
 pub number-one : OneReply 1 number.Kinds.ps number.Kinds.r number.Reads.Post
 number-one κs a r o e e′ p q = p ∙ sym q
 
 pub read-one : OneReply 1 read.Kinds.ps read.Kinds.r read.Reads.Post
 read-one κs a r o e e′ p q = p ∙ sym q
+
+pub glyph-by-one : OneReply 0 glyph-by.Kinds.ps glyph-by.Kinds.r glyph-by.Reads.Post
+glyph-by-one κs a r o e e′ p q = p ∙ sym q
 
 pub glyph-of-one : OneReply 2 glyph-of.Kinds.ps glyph-of.Kinds.r glyph-of.Reads.Post
 glyph-of-one κs a r o e e′ p q = p ∙ sym q

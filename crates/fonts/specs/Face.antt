@@ -2,54 +2,43 @@
 use Prim.Native.Nat.{ℕ, _+_, _-_, _*_, _/_, _%_}
 use mathlib.Core.Bool.{Bool, cond, not, _&&_}
 use mathlib.Core.List.{List, []}
-use lib.Dec.{ltb, leb, eqb}
+use lib.Dec.{ltb, leb}
 use lib.ListN.{take, drop}
 use Rattle.words.specs.Word.{word, bitOf, wordOf}
-use Rattle.words.specs.Place.{placeOfWord}
 use Rattle.fonts.specs.declared.Header.{Header}
+use Rattle.fonts.specs.declared.Entry.{Entry}
 use Rattle.fonts.specs.declared.Glyph.{Glyph}
-use Rattle.fonts.specs.Strike.{headerOf, kerned, codes, height, bitmapAt, pointersOf, widthsOf}
+use Rattle.fonts.specs.Strike.{headerOf, codes, height, bitmapAt, pointersOf, widthsOf}
+use Rattle.fonts.specs.Entry.{entryAt, present, columnsOf, leftOf, advanceOf}
 use Rattle.fonts.specs.Reading.{accepted}
 
--- Kerned: "entry FFFF means that c doesn't exist"; plain: "equal pointers mean that c doesn't exist". k is c - min
-unfoldable pub existsAt : Header → List ℕ → List ℕ → ℕ → Bool
-existsAt h pointers widths k =
-    cond (kerned h) (not (eqb (word widths k) 0xFFFF)) (not (eqb (word pointers k) (word pointers (k + 1))))
+-- a code from min to max whose own entry says that it exists
+unfoldable pub exists : Header → Entry → ℕ → Bool
+exists h own c = leb (h .min) c && leb c (h .max) && present h own
 
-unfoldable pub exists : Header → List ℕ → List ℕ → ℕ → Bool
-exists h pointers widths c = leb (h .min) c && leb c (h .max) && existsAt h pointers widths (c - h .min)
+-- "A code that doesn't exist, or lies outside min to max, is drawn as the dummy"
+unfoldable pub shown : Header → Entry → Entry → ℕ → Entry
+shown h own dummy c = cond (exists h own c) own dummy
 
--- the place in the tables of what is drawn for a code: its own, and n for the dummy, code max + 1
-unfoldable pub shownAt : Header → List ℕ → List ℕ → ℕ → ℕ
-shownAt h pointers widths c = cond (exists h pointers widths c) (c - h .min) (codes h)
-
--- "A picture is the columns from pointer(c) up to, and without, pointer(c + 1)."
-unfoldable pub columnsAt : List ℕ → ℕ → ℕ
-columnsAt pointers k = word pointers (k + 1) - word pointers k
-
--- "the left column goes to pen + FBBox + offset"; plain: "to the pen". "the high byte is BBox - FBBox"
-unfoldable pub placeAt : Header → List ℕ → ℕ → ℕ
-placeAt h widths k = cond (kerned h) (placeOfWord (h .fbbox) + word widths k / 256) 2048
-
--- "the pen moves by Wx"; plain: "by the picture's width". "the low byte is the spacing Wx"
-unfoldable pub advanceAt : Header → List ℕ → List ℕ → ℕ → ℕ
-advanceAt h pointers widths k = cond (kerned h) (word widths k % 256) (columnsAt pointers k)
-
--- "A code that doesn't exist, or lies outside min to max, is drawn as the dummy and counted as one substitute."
-unfoldable pub glyphFrom : Header → List ℕ → List ℕ → ℕ → Glyph
-glyphFrom h pointers widths c =
-    let k = shownAt h pointers widths c in
+-- what is drawn for a code, by its own entry and the dummy's; the dummy is "counted as one substitute"
+unfoldable pub glyphBy : Header → Entry → Entry → ℕ → Glyph
+glyphBy h own dummy c =
+    let e = shown h own dummy c in
     record {
       bitmap = bitmapAt h;
       raster = h .raster;
-      first = word pointers k;
-      columns = columnsAt pointers k;
+      first = e .left;
+      columns = columnsOf e;
       ascent = h .ascent;
       height = height h;
-      place = placeAt h widths k;
-      advance = advanceAt h pointers widths k;
-      substitute = not (exists h pointers widths c);
+      place = leftOf h e;
+      advance = advanceOf h e;
+      substitute = not (exists h own c);
     }
+
+-- "Code max + 1 is the dummy": its entry is the last, n places past min's
+unfoldable pub glyphFrom : Header → List ℕ → List ℕ → ℕ → Glyph
+glyphFrom h pointers widths c = glyphBy h (entryAt pointers widths (c - h .min)) (entryAt pointers widths (codes h)) c
 
 -- the dot of a picture in row r, column j, the top row and the left column being 0; no dot lies past the picture.
 -- "the bitmap, raster × height words, top row first"

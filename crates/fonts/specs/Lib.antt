@@ -1,3 +1,4 @@
 pub mod Strike
+pub mod Entry
 pub mod Reading
 pub mod Face

@@ -4,13 +4,15 @@ use mathlib.Core.Bool.{Bool, false, cond, not, _&&_, _||_}
 use mathlib.Core.List.{List, [], _∷_}
 use lib.Dec.{ltb, eqb}
 use lib.ListN.{length}
-use Rattle.words.specs.Word.{word, bitOf}
+use Rattle.words.specs.Word.{bitOf}
 use Rattle.words.specs.Refusal.{firstOf, orElse, notWithin}
 use Rattle.words.specs.Place.{placeOfWord}
 use Rattle.fonts.specs.declared.Header.{Header}
+use Rattle.fonts.specs.declared.Entry.{Entry}
 use Rattle.fonts.specs.declared.Reading.{Reading}
 use Rattle.fonts.specs.declared.Reading.the-variants.{Accepted, Refused}
 use Rattle.fonts.specs.Strike.{headerOf, kerned, codes, height, pointersOf, widthsOf, bodySum, fileSum}
+use Rattle.fonts.specs.Entry.{entryAt, present}
 
 -- 1: "fewer than 9 words"
 unfoldable pub tooShort : ℕ → Bool
@@ -45,14 +47,9 @@ unfoldable pub fallsFrom : ℕ → List ℕ → Bool
 fallsFrom before [] = false
 fallsFrom before (p ∷ pointers) = ltb p before || fallsFrom p pointers
 
--- 6: "a pointer smaller than the one before, or the last over 16 × raster"
-unfoldable pub badPointers : Header → List ℕ → Bool
-badPointers h pointers = fallsFrom 0 pointers || ltb (16 * h .raster) (word pointers (codes h + 1))
-
--- 7: "no dummy: kerned entry FFFF; plain, no columns". The dummy's entry and pointer are those of code max + 1
-unfoldable pub noDummy : Header → List ℕ → List ℕ → Bool
-noDummy h pointers widths =
-    cond (kerned h) (eqb (word widths (codes h)) 0xFFFF) (eqb (word pointers (codes h)) (word pointers (codes h + 1)))
+-- 6: "a pointer smaller than the one before, or the last over 16 × raster"; the last is where the dummy's picture ends
+unfoldable pub badPointers : Header → Bool → Entry → Bool
+badPointers h falls dummy = falls || ltb (16 * h .raster) (dummy .right)
 
 unfoldable pub headerNumber : Header → ℕ → ℕ
 headerNumber h count =
@@ -65,14 +62,19 @@ headerNumber h count =
     ∷ (badLength h count, 5)
     ∷ [])
 
-unfoldable pub tableNumber : Header → List ℕ → List ℕ → ℕ
-tableNumber h pointers widths = firstOf ((badPointers h pointers, 6) ∷ (noDummy h pointers widths, 7) ∷ [])
+-- 7: "no dummy: kerned entry FFFF; plain, no columns", which is how a code doesn't exist
+unfoldable pub noDummy : Header → Entry → Bool
+noDummy h dummy = not (present h dummy)
+
+unfoldable pub tableNumber : Header → Bool → Entry → ℕ
+tableNumber h falls dummy = firstOf ((badPointers h falls dummy, 6) ∷ (noDummy h dummy, 7) ∷ [])
 
 -- the number of a font file's refusal, 0 where it is accepted
 unfoldable pub fontNumber : List ℕ → ℕ
 fontNumber ws =
     let h = headerOf ws in
-    orElse (headerNumber h (length ws)) (tableNumber h (pointersOf h ws) (widthsOf h ws))
+    let pointers = pointersOf h ws in
+    orElse (headerNumber h (length ws)) (tableNumber h (fallsFrom 0 pointers) (entryAt pointers (widthsOf h ws) (codes h)))
 
 unfoldable pub accepted : List ℕ → Bool
 accepted ws = eqb (fontNumber ws) 0

@@ -1,11 +1,12 @@
 // Reading PlainStrike and KernedStrike files: what a file is refused for, and what it shows for a code.
 ghost use mathlib.Core.Path.{_≡_};
-ghost use Prim.Native.Nat.{_≤_};
+ghost use Prim.Native.Nat.{_-_, _≤_};
 ghost use mathlib.Core.Bool.{cond};
 ghost use Rattle.words.specs.Word.{word};
 ghost use Rattle.fonts.specs.Strike.{kernedFormat, bodyAt, headerOf, kerned, codes, height, bitmapAt, bitmapWords, pointersAt, pointersOf, widthsOf, bodySum, fileSum};
+ghost use Rattle.fonts.specs.Entry.{entryAt, present, columnsOf, leftOf, advanceOf};
 ghost use Rattle.fonts.specs.Reading.{badFormat, kernedTooShort, badCodes, badBox, badSizes, badLength, fallsFrom, badPointers, noDummy, headerNumber, tableNumber, fontNumber, readingOf};
-ghost use Rattle.fonts.specs.Face.{existsAt, exists, shownAt, columnsAt, placeAt, advanceAt, glyphFrom, dotOf, dotsOf, rowOf};
+ghost use Rattle.fonts.specs.Face.{exists, shown, glyphBy, glyphFrom, dotOf, dotsOf, rowOf};
 
 // The words that stand before a strike's bitmap and that the reader looks at. A plain file has no box, and its fbbox is 0.
 pub struct Header {
@@ -24,6 +25,13 @@ pub struct Header {
 pub enum Reading {
     Accepted(Header),
     Refused(u32),
+}
+
+// What the two tables say at one place: the columns from left up to, and without, right, and the width entry.
+pub struct Entry {
+    pub left: u16,
+    pub right: u16,
+    pub width: u16,
 }
 
 // What a font shows for a code.
@@ -96,14 +104,21 @@ impl Header {
         kerned_format(self.format)
     }
 
-    // n, the number of codes from min to max; 1 where min is past max, which 3 refuses.
-    fn codes(self) -> usize
+    // n, the number of codes from min to max; 1 where min is past max, which 3 refuses. The dummy's entry is so many places past min's.
+    pub fn codes(self) -> usize
         ensures { λ r. ⌜ r ≡ codes self ⌝ }
     {
         if self.max < self.min {
             return 1;
         }
         (self.max - self.min) as usize + 1
+    }
+
+    // How many places past min's a code's entry is; 0 for a code below min, which has none.
+    pub fn place(self, code: u32) -> usize
+        ensures { λ r. ⌜ r ≡ code - self .min ⌝ }
+    {
+        words::past(code as usize, self.min as usize)
     }
 
     fn height(self) -> usize
@@ -129,7 +144,7 @@ impl Header {
         self.raster as usize * self.height()
     }
 
-    fn pointers_at(self) -> usize
+    pub fn pointers_at(self) -> usize
         ensures { λ r. ⌜ r ≡ pointersAt self ⌝ }
         ensures small { λ r. ⌜ r ≤ 8589672463 ⌝ }
     {
@@ -151,6 +166,57 @@ impl Header {
             return self.bitmap_words() + 2 * self.codes() + 16;
         }
         self.bitmap_words() + self.codes() + 11
+    }
+}
+
+impl Entry {
+    // The entry k places past min's.
+    fn at(pointers: &[u16], widths: &[u16], k: usize) -> Entry
+        requires { ⌜ k ≤ 4294967296 ⌝ }
+        ensures { λ r. ⌜ r ≡ entryAt (now (pointers .entry)) (now (widths .entry)) k ⌝ }
+    {
+        Entry {
+            left: words::word_at(pointers, k),
+            right: words::word_at(pointers, k + 1),
+            width: words::word_at(widths, k),
+        }
+    }
+
+    fn present(self, h: Header) -> bool
+        ensures { λ r. ⌜ r ≡ present h self ⌝ }
+    {
+        if h.kerned() {
+            return self.width != 0xFFFF;
+        }
+        self.left != self.right
+    }
+
+    fn columns(self) -> u16
+        ensures { λ r. ⌜ r ≡ columnsOf self ⌝ }
+    {
+        if self.right < self.left {
+            return 0;
+        }
+        self.right - self.left
+    }
+
+    // Where the left column goes, from the pen, counted from 2048 dots to its left.
+    fn place(self, h: Header) -> u32
+        ensures { λ r. ⌜ r ≡ leftOf h self ⌝ }
+    {
+        if h.kerned() {
+            return words::place_of_word(h.fbbox) as u32 + (self.width / 256) as u32;
+        }
+        2048
+    }
+
+    fn advance(self, h: Header) -> u16
+        ensures { λ r. ⌜ r ≡ advanceOf h self ⌝ }
+    {
+        if h.kerned() {
+            return self.width % 256;
+        }
+        self.columns()
     }
 }
 
@@ -234,8 +300,8 @@ fn bad_length(h: Header, count: usize) -> bool
     false
 }
 
-// What a file is refused for by its header and its length alone.
-fn header_number(h: Header, count: usize) -> u32
+// What a file of so many words is refused for by its header alone.
+pub fn header_number(h: Header, count: usize) -> u32
     ensures { λ r. ⌜ r ≡ headerNumber h count ⌝ }
 {
     if count < 9 {
@@ -275,33 +341,29 @@ fn falls(pointers: &[u16]) -> bool
     false
 }
 
-fn bad_pointers(h: Header, pointers: &[u16]) -> bool
-    ensures { λ r. ⌜ r ≡ badPointers h (now (pointers .entry)) ⌝ }
+fn bad_pointers(h: Header, falls: bool, dummy: Entry) -> bool
+    ensures { λ r. ⌜ r ≡ badPointers h falls dummy ⌝ }
 {
-    if falls(pointers) {
+    if falls {
         return true;
     }
-    16 * (h.raster as usize) < words::word_at(pointers, h.codes() + 1) as usize
+    16 * (h.raster as usize) < dummy.right as usize
 }
 
-fn no_dummy(h: Header, pointers: &[u16], widths: &[u16]) -> bool
-    ensures { λ r. ⌜ r ≡ noDummy h (now (pointers .entry)) (now (widths .entry)) ⌝ }
+fn no_dummy(h: Header, dummy: Entry) -> bool
+    ensures { λ r. ⌜ r ≡ noDummy h dummy ⌝ }
 {
-    let n = h.codes();
-    if h.kerned() {
-        return words::word_at(widths, n) == 0xFFFF;
-    }
-    words::word_at(pointers, n) == words::word_at(pointers, n + 1)
+    !dummy.present(h)
 }
 
-// What a file is refused for by its two tables.
-fn table_number(h: Header, pointers: &[u16], widths: &[u16]) -> u32
-    ensures { λ r. ⌜ r ≡ tableNumber h (now (pointers .entry)) (now (widths .entry)) ⌝ }
+// What a file is refused for by its two tables: by whether the pointers fall, and by the dummy's entry.
+pub fn table_number(h: Header, falls: bool, dummy: Entry) -> u32
+    ensures { λ r. ⌜ r ≡ tableNumber h falls dummy ⌝ }
 {
-    if bad_pointers(h, pointers) {
+    if bad_pointers(h, falls, dummy) {
         return 6;
     }
-    if no_dummy(h, pointers, widths) {
+    if no_dummy(h, dummy) {
         return 7;
     }
     0
@@ -316,7 +378,9 @@ pub fn number(font: &[u16]) -> u32
     if first != 0 {
         return first;
     }
-    table_number(h, pointers(font, h), widths(font, h))
+    let table = pointers(font, h);
+    let dummy = Entry::at(table, widths(font, h), h.codes());
+    table_number(h, falls(table), dummy)
 }
 
 pub fn read(font: &[u16]) -> Reading
@@ -329,88 +393,55 @@ pub fn read(font: &[u16]) -> Reading
     Reading::Accepted(Header::of(font))
 }
 
-// A code that is k past min exists.
-fn exists_at(h: Header, pointers: &[u16], widths: &[u16], k: u32) -> bool
-    ensures { λ r. ⌜ r ≡ existsAt h (now (pointers .entry)) (now (widths .entry)) k ⌝ }
+// A code from min to max whose own entry says that it exists.
+fn exists(h: Header, own: Entry, code: u32) -> bool
+    ensures { λ r. ⌜ r ≡ exists h own code ⌝ }
 {
-    let at = k as usize;
-    if h.kerned() {
-        return words::word_at(widths, at) != 0xFFFF;
-    }
-    words::word_at(pointers, at) != words::word_at(pointers, at + 1)
-}
-
-fn exists(h: Header, pointers: &[u16], widths: &[u16], code: u32) -> bool
-    ensures { λ r. ⌜ r ≡ exists h (now (pointers .entry)) (now (widths .entry)) code ⌝ }
-{
-    let min = h.min as u32;
-    if code < min {
+    if code < h.min as u32 {
         return false;
     }
     if (h.max as u32) < code {
         return false;
     }
-    exists_at(h, pointers, widths, code - min)
+    own.present(h)
 }
 
-// Where the tables have what is drawn for a code: at its own place, or at the dummy's.
-fn shown_at(h: Header, pointers: &[u16], widths: &[u16], code: u32) -> u32
-    ensures { λ r. ⌜ r ≡ shownAt h (now (pointers .entry)) (now (widths .entry)) code ⌝ }
+// Of a code's own entry and the dummy's the one that is drawn.
+fn shown(h: Header, own: Entry, dummy: Entry, code: u32) -> Entry
+    ensures { λ r. ⌜ r ≡ shown h own dummy code ⌝ }
 {
-    if exists(h, pointers, widths, code) {
-        return code - h.min as u32;
+    if exists(h, own, code) {
+        return own;
     }
-    h.codes() as u32
-}
-
-fn columns_at(pointers: &[u16], k: u32) -> u16
-    ensures { λ r. ⌜ r ≡ columnsAt (now (pointers .entry)) k ⌝ }
-{
-    let at = k as usize;
-    let left = words::word_at(pointers, at);
-    let right = words::word_at(pointers, at + 1);
-    if right < left {
-        return 0;
-    }
-    right - left
-}
-
-fn place_at(h: Header, widths: &[u16], k: u32) -> u32
-    ensures { λ r. ⌜ r ≡ placeAt h (now (widths .entry)) k ⌝ }
-{
-    if h.kerned() {
-        let offset = words::word_at(widths, k as usize) / 256;
-        return words::place_of_word(h.fbbox) as u32 + offset as u32;
-    }
-    2048
-}
-
-fn advance_at(h: Header, pointers: &[u16], widths: &[u16], k: u32) -> u16
-    ensures { λ r. ⌜ r ≡ advanceAt h (now (pointers .entry)) (now (widths .entry)) k ⌝ }
-{
-    if h.kerned() {
-        return words::word_at(widths, k as usize) % 256;
-    }
-    columns_at(pointers, k)
+    dummy
 }
 
 impl Glyph {
+    // What a font shows for a code, by the code's own entry and the dummy's.
+    pub fn by(h: Header, own: Entry, dummy: Entry, code: u32) -> Glyph
+        ensures { λ r. ⌜ r ≡ glyphBy h own dummy code ⌝ }
+    {
+        let entry = shown(h, own, dummy, code);
+        Glyph {
+            bitmap: h.bitmap_at() as u32,
+            raster: h.raster,
+            first: entry.left,
+            columns: entry.columns(),
+            ascent: h.ascent,
+            height: h.height() as u32,
+            place: entry.place(h),
+            advance: entry.advance(h),
+            substitute: !exists(h, own, code),
+        }
+    }
+
     // What the font shows for a code, by its header and its two tables.
     pub fn of(h: Header, pointers: &[u16], widths: &[u16], code: u32) -> Glyph
         ensures { λ r. ⌜ r ≡ glyphFrom h (now (pointers .entry)) (now (widths .entry)) code ⌝ }
     {
-        let k = shown_at(h, pointers, widths, code);
-        Glyph {
-            bitmap: h.bitmap_at() as u32,
-            raster: h.raster,
-            first: words::word_at(pointers, k as usize),
-            columns: columns_at(pointers, k),
-            ascent: h.ascent,
-            height: h.height() as u32,
-            place: place_at(h, widths, k),
-            advance: advance_at(h, pointers, widths, k),
-            substitute: !exists(h, pointers, widths, code),
-        }
+        let own = Entry::at(pointers, widths, h.place(code));
+        let dummy = Entry::at(pointers, widths, h.codes());
+        Glyph::by(h, own, dummy, code)
     }
 
     // One dot of a picture; 0 past it.

@@ -8,6 +8,7 @@ use Rattle.words.proofs.Outcomes.{OneReply}
 use Rattle.paint.proofs.Shape.panel_words as panel-words
 use Rattle.paint.proofs.bad_panel as bad-panel
 use Rattle.paint.proofs.measure as measure
+use Rattle.paint.proofs.measure_bytes as measure-bytes
 use Rattle.paint.proofs.paint as paint
 
 pub panel-words-one : OneReply 0 panel-words.Kinds.ps panel-words.Kinds.r panel-words.Reads.Post
@@ -18,6 +19,9 @@ bad-panel-one κs a r o e e′ p q = p ∙ sym q
 
 pub measure-one : OneReply 2 measure.Kinds.ps measure.Kinds.r measure.Reads.Post
 measure-one κs a r o e e′ p q = p ∙ sym q
+
+pub measure-bytes-one : OneReply 2 measure-bytes.Kinds.ps measure-bytes.Kinds.r measure-bytes.Reads.Post
+measure-bytes-one κs a r o e e′ p q = p ∙ sym q
 
 pub paint-one : (κs : Lfts 3) (a : Dens κs paint.Kinds.ps) (r o : resT paint.Kinds.r κs .Denot) (e e′ : AtExit (endedOf 3 paint.Kinds.ps paint.Kinds.r) κs)
     → paint.Reads.Post κs a r e → paint.Reads.Post κs a o e′

@@ -1,20 +1,24 @@
 -- The reply of a call, once its number is known.
-use Prim.Native.Nat.{ℕ, _*_}
+use Prim.Native.Nat.{ℕ, _*_, _≤_}
 use mathlib.Core.Path.{_≡_, refl}
 use mathlib.Core.Bool.{true, false}
 use mathlib.Core.List.{List, [], _∷_}
 use lib.ListN.{length}
-use borrow.Author.Tests.{ne-eqb, eqb-false}
+use lib.Dec.{ltb}
+use lib.IntN.{ℤ}
+use native.Mathlib.Omega.{arith}
+use borrow.Author.Tests.{ne-eqb, eqb-false, ltb-false}
 use Rattle.words.specs.Refusal.{firstOf}
 use Rattle.words.specs.Effect.{altered}
 use Rattle.words.proofs.Chain.{stage-stops, stage-goes-on}
 use Rattle.fonts.specs.Reading.{fontNumber}
 use Rattle.paint.specs.declared.Shape.{Shape}
-use Rattle.words.specs.Place.{numberAt}
+use Rattle.words.specs.Place.{outside, numberAt}
+use Rattle.words.proofs.Passed.{passed, stages-passed}
 use Rattle.paint.specs.declared.Pen.{Pen}
 use Rattle.paint.specs.declared.Reply.{Reply}
 use Rattle.paint.specs.declared.Reply.the-variants.{Done, Refused}
-use Rattle.paint.specs.Label.{Call, labelNumber, callNumber, callEffect, paintAfter, replyFor}
+use Rattle.paint.specs.Label.{Call, labelNumber, callNumber, callEffect, paintAfter, replyFor, measureNumber}
 use Rattle.paint.specs.Panel.{badPanel, panelNumber}
 
 pub replies-refused : (n number : ℕ) (pen : Pen) → n ≡ number → (n ≡ 0 → ⊥) → Refused n ≡ replyFor number pen
@@ -24,6 +28,14 @@ replies-refused n number pen e h = rw (← e) (rw (ne-eqb n 0 h))
 pub replies-done : (reply : Reply) (number : ℕ) (pen : Pen) → 0 ≡ number → reply ≡ Done (numberAt (pen .place)) (pen .substitutes) → reply ≡ replyFor number pen
 unfolding replyFor
 replies-done reply number pen e h = rw (← e) h
+
+-- a label that measuring does not refuse has 64 bytes at most
+pub measure-short : (font : ℕ) (x : ℤ) (bytes : ℕ) → measureNumber font x bytes ≡ 0 → bytes ≤ 64
+unfolding measureNumber firstOf
+measure-short font x bytes e =
+    let own = stages-passed font _ e .1 in
+    let place = passed (outside x) 10 _ (omega arith) own in
+    ltb-false 64 bytes (passed (ltb 64 bytes) 11 _ (omega arith) (place .1) .0)
 
 -- the panel of a call, once its number is known
 pub panel-refused : (n : ℕ) (s : Shape) (call : Call) (panel : List ℕ) → n ≡ callNumber s (length panel ∷ []) call → (n ≡ 0 → ⊥) → panel ≡ paintAfter s call panel

@@ -83,9 +83,9 @@ paintAfter s call panel =
     panel
 
 -- "Measuring takes a font, x and a label and gives an accepted painting's reply with no panel; of 8 to 12 only 10, for x, and 11
--- can refuse it."
-unfoldable pub measureNumber : List ℕ → ℤ → List ℕ → ℕ
-measureNumber font x label = orElse (fontNumber font) (firstOf ((outside x, 10) ∷ (ltb 64 (length label), 11) ∷ []))
+-- can refuse it." By the font's number, x and the label's bytes
+unfoldable pub measureNumber : ℕ → ℤ → ℕ → ℕ
+measureNumber font x bytes = orElse font (firstOf ((outside x, 10) ∷ (ltb 64 bytes, 11) ∷ []))
 
 unfoldable pub measureOf : List ℕ → ℤ → List ℕ → Reply
-measureOf font x label = replyFor (measureNumber font x label) (lastPen font x label)
+measureOf font x label = replyFor (measureNumber (fontNumber font) x (length label)) (lastPen font x label)

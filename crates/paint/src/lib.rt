@@ -10,12 +10,12 @@ ghost use Rattle.paint.specs.Panel.{panelWords, stripOf, badSides, badSh
 ghost use lib.ListN.{length};
 ghost use Rattle.words.specs.Place.{numberAt};
 ghost use Rattle.fonts.specs.Face.{glyphFrom, faceFrom};
-ghost use Rattle.words.specs.Word.{wordOf};
+ghost use Rattle.words.specs.Word.{wordOf, wordsOf};
 ghost use Rattle.words.specs.Effect.{applyTo, effectOf, altered};
 ghost use Rattle.fonts.specs.Face.{dotOf};
 ghost use Rattle.paint.specs.Pen.{penAt, penAfter, penAlong, inStrip, dotAlong, maskFrom, pictureEffect, labelEffect};
 ghost use Rattle.paint.specs.declared.Reply.the-variants.{Done};
-ghost use Rattle.paint.specs.Label.{callOf, labelNumber, lastPen, callEffect, replyOf, paintAfter, measureOf};
+ghost use Rattle.paint.specs.Label.{callOf, labelNumber, lastPen, callEffect, replyOf, paintAfter, measureNumber, measureOf};
 
 // The size of a panel: words per row, rows, and the columns of a strip.
 pub struct Shape {
@@ -180,21 +180,70 @@ fn last_pen(font: &[u16], x: i32, label: &[u8]) -> Pen
     pen_along(h, pointers, widths, Pen::at(x), label)
 }
 
+// The pen after a label, by the header and the two tables of a font in bytes.
+fn pen_along_bytes(h: Header, pointers: &[u8], widths: &[u8], start: Pen, label: &[u8]) -> Pen
+    requires { ⌜ (start .place ≤ 65536) × (start .substitutes ≤ 65536) ⌝ }
+    requires { ⌜ length (now label) ≤ 64 ⌝ }
+    ensures { λ r. ⌜ r ≡ penAlong (glyphFrom h (wordsOf (now (pointers .entry))) (wordsOf (now (widths .entry)))) start (now (label .entry)) ⌝ }
+    ensures small { λ r. ⌜ (r .place ≤ 4259840) × (r .substitutes ≤ 65600) ⌝ }
+{
+    let mut pen = start;
+    let mut i = 0;
+    while i < label.len() {
+        let g = fontbytes::glyph(h, pointers, widths, code(label[i]));
+        pen = pen.after(g);
+        i += 1;
+    }
+    pen
+}
+
+fn last_pen_in_bytes(font: &[u8], x: i32, label: &[u8]) -> Pen
+    requires { ⌜ length (now label) ≤ 64 ⌝ }
+    ensures { λ r. ⌜ r ≡ lastPen (wordsOf (now (font .entry))) x (now (label .entry)) ⌝ }
+    ensures small { λ r. ⌜ (r .place ≤ 4259840) × (r .substitutes ≤ 65600) ⌝ }
+{
+    let h = fontbytes::header(font);
+    let pointers = fontbytes::pointers(font, h);
+    let widths = fontbytes::widths(font, h);
+    pen_along_bytes(h, pointers, widths, Pen::at(x), label)
+}
+
+// What measuring is refused for, where its font is refused by this number or by none.
+fn measure_number(font: u32, at: i32, count: usize) -> u32
+    ensures { λ r. ⌜ r ≡ measureNumber font at count ⌝ }
+{
+    if font != 0 {
+        return font;
+    }
+    if words::outside(at) {
+        return 10;
+    }
+    if 64 < count {
+        return 11;
+    }
+    0
+}
+
 // The reply of an accepted painting, with no panel.
 pub fn measure(font: &[u16], x: i32, label: &[u8]) -> Reply
     ensures { λ r. ⌜ r ≡ measureOf (now (font .entry)) x (now (label .entry)) ⌝ }
 {
-    let refusal = fonts::number(font);
+    let refusal = measure_number(fonts::number(font), x, label.len());
     if refusal != 0 {
         return Reply::Refused(refusal);
     }
-    if words::outside(x) {
-        return Reply::Refused(10);
-    }
-    if 64 < label.len() {
-        return Reply::Refused(11);
-    }
     done(last_pen(font, x, label))
+}
+
+// The same, with the font in bytes, which are read where they lie.
+pub fn measure_bytes(font: &[u8], x: i32, label: &[u8]) -> Reply
+    ensures { λ r. ⌜ r ≡ measureOf (wordsOf (now (font .entry))) x (now (label .entry)) ⌝ }
+{
+    let refusal = measure_number(fontbytes::number(font), x, label.len());
+    if refusal != 0 {
+        return Reply::Refused(refusal);
+    }
+    done(last_pen_in_bytes(font, x, label))
 }
 
 // 1 for a column of the strip, 0 for any other.

@@ -15,6 +15,8 @@ use Rattle.words.proofs.outside as outside
 use Rattle.words.proofs.place_of as place-of
 use Rattle.words.proofs.word_at as word-at
 use Rattle.words.proofs.part as part
+use Rattle.words.proofs.word_in as word-in
+use Rattle.words.proofs.part_in as part-in
 use Rattle.words.proofs.from_bytes as from-bytes
 use Rattle.words.proofs.to_bytes as to-bytes
 use Rattle.words.proofs.Mode.of as mode-of
@@ -89,6 +91,13 @@ word-at-one κs a r o e e′ p q = p ∙ sym q
 pub part-one : (κs : Lfts 1) (a : Dens κs part.Kinds.ps) (r o : resT part.Kinds.r κs .Denot) (e e′ : AtExit (endedOf 1 part.Kinds.ps part.Kinds.r) κs)
     → part.Reads.Post κs a r e → part.Reads.Post κs a o e′ → now r ≡ now o
 part-one κs a r o e e′ p q = p ∙ sym q
+
+pub word-in-one : OneReply 1 word-in.Kinds.ps word-in.Kinds.r word-in.Reads.Post
+word-in-one κs a r o e e′ p q = p ∙ sym q
+
+pub part-in-one : (κs : Lfts 1) (a : Dens κs part-in.Kinds.ps) (r o : resT part-in.Kinds.r κs .Denot) (e e′ : AtExit (endedOf 1 part-in.Kinds.ps part-in.Kinds.r) κs)
+    → part-in.Reads.Post κs a r e → part-in.Reads.Post κs a o e′ → now r ≡ now o
+part-in-one κs a r o e e′ p q = p ∙ sym q
 
 -- the list that the words are written over too
 pub from-bytes-one : (κs : Lfts 2) (a : Dens κs from-bytes.Kinds.ps) (r o : resT from-bytes.Kinds.r κs .Denot) (e e′ : AtExit (endedOf 2 from-bytes.Kinds.ps from-bytes.Kinds.r) κs)

@@ -219,6 +219,32 @@ fn pair(high: u8, low: u8) -> u16
     high as u16 * 256 + low as u16
 }
 
+// Word i of the words that bytes spell, the high byte first; 0 past their end.
+pub fn word_in(bytes: &[u8], i: usize) -> u16
+    ensures { λ r. ⌜ r ≡ word (wordsOf (now (bytes .entry))) i ⌝ }
+{
+    if i < bytes.len() / 2 {
+        return pair(bytes[2 * i], bytes[2 * i + 1]);
+    }
+    0
+}
+
+// The bytes that spell the count words from word `from` on, as a part of the bytes; fewer where these end before.
+pub fn part_in(bytes: &[u8], from: usize, count: usize) -> &[u8]
+    ensures { λ r. ⌜ now r ≡ take (2 * count) (drop (2 * from) (now (bytes .entry))) ⌝ }
+{
+    let length = bytes.len();
+    if length - length / 2 <= from {
+        return &bytes[..0];
+    }
+    let start = 2 * from;
+    let rest = length - start;
+    if rest - rest / 2 <= count {
+        return &bytes[start..];
+    }
+    &bytes[start..start + 2 * count]
+}
+
 // Byte i of the bytes that a list spells, the high byte of a word first; 0 past their end.
 fn byte_at(list: &[u16], i: usize) -> u8
     ensures { λ r. ⌜ r ≡ word (bytesOf (now (list .entry))) i ⌝ }
@@ -239,7 +265,7 @@ pub fn from_bytes(bytes: &[u8], list: &mut [u16]) -> usize
     let n = least(bytes.len() / 2, list.len());
     let mut i = 0;
     while i < n {
-        list[i] = pair(bytes[2 * i], bytes[2 * i + 1]);
+        list[i] = word_in(bytes, i);
         i += 1;
     }
     n

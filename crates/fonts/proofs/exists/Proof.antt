@@ -1,13 +1,13 @@
 -- `fonts::exists` meets its contract, by the tests that it makes.
 -- Assumes nothing.
-use borrow.Author.Needs.{needs}
 use Rattle.fonts.specs.Face.{exists}
 use Rattle.words.proofs.Chain.{chain, as-chain}
+use borrow.Author.Needs.{needs}
 use Rattle.fonts.proofs.exists.Statement.{statement}
 use Rattle.fonts.proofs.exists.Tie as tie
 
-cast-min : tie.Need-cast-min
-cast-min c = search needs
+cast-if1 : tie.Need-cast-if1
+cast-if1 c = search needs
 
 returns : tie.Need-returns
 unfolding exists
@@ -20,12 +20,12 @@ returns-2 : tie.Need-returns-2
 unfolding exists
 returns-2 c = as-chain (search chain depth 20)
 
-exists-at-requires : tie.Need-exists-at-requires
-exists-at-requires c κs = search needs
+present-requires : tie.Need-present-requires
+present-requires c κs = search needs
 
 returns-3 : tie.Need-returns-3
 unfolding exists
 returns-3 c = as-chain (search chain depth 20)
 
 pub exists-spec : {M : Type 1} → statement M
-exists-spec = tie.close (tie.spec cast-min returns cast-if2 returns-2 exists-at-requires returns-3)
+exists-spec = tie.close (tie.spec cast-if1 returns cast-if2 returns-2 present-requires returns-3)

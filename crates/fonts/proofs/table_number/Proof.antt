@@ -1,9 +1,9 @@
 -- `fonts::table_number` meets its contract: its tests are the definition's, in the same order.
 -- Assumes nothing.
-use borrow.Author.Needs.{needs}
 use Rattle.words.specs.Refusal.{firstOf}
 use Rattle.fonts.specs.Reading.{tableNumber}
 use Rattle.words.proofs.Chain.{chain}
+use borrow.Author.Needs.{needs}
 use Rattle.fonts.proofs.table_number.Statement.{statement}
 use Rattle.fonts.proofs.table_number.Tie as tie
 

@@ -1,12 +1,11 @@
 -- `words::from_bytes` writes the words that bytes spell.
 use Prim.Native.Nat.{_-_, _≤_}
-use mathlib.Core.Path.{_≡_, refl, sym, _∙_}
+use mathlib.Core.Path.{_≡_, refl}
 use native.Mathlib.Omega.{arith}
 use lib.ListN.{length, length-set}
 use denote.Ref.{now}
 use Rattle.words.specs.Word.{word, wordsOf, over}
 use Rattle.words.proofs.Over.{over-step}
-use Rattle.words.proofs.Bytes.{words-at}
 use Rattle.words.proofs.from_bytes.Statement.{statement}
 use Rattle.words.proofs.from_bytes.Tie as tie
 
@@ -23,23 +22,8 @@ loop-holds : tie.Need-loop-holds Inv-loop μ-loop
 unfolding over
 loop-holds c = (omega arith, refl, refl)
 
-mul-pair : tie.Need-mul-pair Inv-loop μ-loop
-mul-pair c = omega arith
-
-shared-slice-read-pair : tie.Need-shared-slice-read-pair Inv-loop μ-loop
-shared-slice-read-pair c = omega arith
-
-mul-pair-2 : tie.Need-mul-pair-2 Inv-loop μ-loop
-mul-pair-2 c = omega arith
-
-add-pair : tie.Need-add-pair Inv-loop μ-loop
-add-pair c = omega arith
-
-shared-slice-read-pair-2 : tie.Need-shared-slice-read-pair-2 Inv-loop μ-loop
-shared-slice-read-pair-2 c = omega arith
-
-pair-requires : tie.Need-pair-requires Inv-loop μ-loop
-pair-requires c κs = tt
+word-in-requires : tie.Need-word-in-requires Inv-loop μ-loop
+word-in-requires c κs = tt
 
 mul-list : tie.Need-mul-list Inv-loop μ-loop
 mul-list c = omega arith
@@ -55,13 +39,12 @@ loop-less c = omega arith
 
 loop-again : tie.Need-loop-again Inv-loop μ-loop
 loop-again c =
-    let b = c .before .before .before .before in
+    let b = c .before .before in
     let a = b .before .before .before .before .args in
-    let i = b .loop .i in
-    let spelt : c .pair .result ≡ word (wordsOf (now (a .bytes))) i = c .pair .ensures ∙ sym (words-at (now (a .bytes)) i (omega arith)) in (
+    let i = b .loop .i in (
       omega arith,
       simp length-set (b .loop .inv .1),
-      over-step i (c .pair .result) (word (wordsOf (now (a .bytes)))) (b .loop .list) (now (a .list)) (b .loop .inv .2) spelt,
+      over-step i (c .word-in .result) (word (wordsOf (now (a .bytes)))) (b .loop .list) (now (a .list)) (b .loop .inv .2) (c .word-in .ensures),
     )
 
 same-length : tie.Need-same-length Inv-loop μ-loop
@@ -80,12 +63,7 @@ from-bytes-spec =
     μ-loop
     least-requires
     loop-holds
-    mul-pair
-    shared-slice-read-pair
-    mul-pair-2
-    add-pair
-    shared-slice-read-pair-2
-    pair-requires
+    word-in-requires
     mul-list
     slice-write-list
     add-i

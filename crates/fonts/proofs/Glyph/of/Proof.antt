@@ -1,42 +1,24 @@
--- `fonts::Glyph::of` meets its contract, field by field.
+-- `fonts::Glyph::of` meets its contract: it asks the tables at the code's own place and at the dummy's.
 -- Assumes nothing.
-use borrow.Author.Needs.{needs}
 use Rattle.fonts.specs.Face.{glyphFrom}
+use borrow.Author.Needs.{needs}
 use Rattle.fonts.proofs.Glyph.of.Statement.{statement}
 use Rattle.fonts.proofs.Glyph.of.Tie as tie
 
-shown-at-requires : tie.Need-shown-at-requires
-shown-at-requires c κs = search needs
+place-requires : tie.Need-place-requires
+place-requires c κs = search needs
 
-bitmap-at-requires : tie.Need-bitmap-at-requires
-bitmap-at-requires c κs = search needs
+at-requires : tie.Need-at-requires
+at-requires c κs = search needs
 
-cast-t7 : tie.Need-cast-t7
-cast-t7 c = search needs
+codes-requires : tie.Need-codes-requires
+codes-requires c κs = search needs
 
-cast-word-at : tie.Need-cast-word-at
-cast-word-at c = search needs
+at-requires-2 : tie.Need-at-requires-2
+at-requires-2 c κs = search needs
 
-word-at-requires : tie.Need-word-at-requires
-word-at-requires c κs = search needs
-
-columns-at-requires : tie.Need-columns-at-requires
-columns-at-requires c κs = search needs
-
-height-requires : tie.Need-height-requires
-height-requires c κs = search needs
-
-cast-t12 : tie.Need-cast-t12
-cast-t12 c = search needs
-
-place-at-requires : tie.Need-place-at-requires
-place-at-requires c κs = search needs
-
-advance-at-requires : tie.Need-advance-at-requires
-advance-at-requires c κs = search needs
-
-exists-requires : tie.Need-exists-requires
-exists-requires c κs = search needs
+by-requires : tie.Need-by-requires
+by-requires c κs = search needs
 
 returns : tie.Need-returns
 unfolding glyphFrom
@@ -45,16 +27,4 @@ returns c = cc
 pub of-spec : {M : Type 1} → statement M
 of-spec =
     tie.close
-    (tie.spec
-    shown-at-requires
-    bitmap-at-requires
-    cast-t7
-    cast-word-at
-    word-at-requires
-    columns-at-requires
-    height-requires
-    cast-t12
-    place-at-requires
-    advance-at-requires
-    exists-requires
-    returns)
+    (tie.spec place-requires at-requires codes-requires at-requires-2 by-requires returns)

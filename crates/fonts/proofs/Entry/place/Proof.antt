@@ -1,18 +1,15 @@
--- `fonts::place_at` meets its contract, by its one test.
+-- `fonts::Entry::place` meets its contract, by its one test.
 -- Assumes nothing.
 use Prim.Native.Nat.{ℕ, _+_, _/_}
-use mathlib.Core.Path.{ap₂}
-use borrow.Author.Needs.{needs}
-use Rattle.fonts.specs.Face.{placeAt}
+use mathlib.Core.Path.{ap}
+use Rattle.fonts.specs.Entry.{leftOf}
 use Rattle.words.proofs.Chain.{chain}
-use Rattle.fonts.proofs.place_at.Statement.{statement}
-use Rattle.fonts.proofs.place_at.Tie as tie
+use borrow.Author.Needs.{needs}
+use Rattle.fonts.proofs.Entry.place.Statement.{statement}
+use Rattle.fonts.proofs.Entry.place.Tie as tie
 
 kerned-requires : tie.Need-kerned-requires
 kerned-requires c κs = search needs
-
-word-at-requires : tie.Need-word-at-requires
-word-at-requires c κs = search needs
 
 place-of-word-requires : tie.Need-place-of-word-requires
 place-of-word-requires c κs = search needs
@@ -27,21 +24,20 @@ add-result : tie.Need-add-result
 add-result c = search needs
 
 returns : tie.Need-returns
-unfolding placeAt
+unfolding leftOf
 returns c =
-    let sum = ap₂ (λ (p w : ℕ). p + w / 256) (c .place-of-word .ensures) (c .before .word-at .ensures) in
+    let sum = ap (λ (p : ℕ). p + c .before .before .before .before .args .self .width / 256) (c .before .place-of-word .ensures) in
     search chain
 
 returns-2 : tie.Need-returns-2
-unfolding placeAt
+unfolding leftOf
 returns-2 c = search chain
 
-pub place-at-spec : {M : Type 1} → statement M
-place-at-spec =
+pub place-spec : {M : Type 1} → statement M
+place-spec =
     tie.close
     (tie.spec
     kerned-requires
-    word-at-requires
     place-of-word-requires
     cast-result
     cast-result-2

@@ -1,0 +1,25 @@
+-- `desk::pailradish_measure` meets its contract: the reply of measuring, as C has it.
+-- Assumes nothing.
+use mathlib.Core.Path.{ap, _∙_}
+use lib.IntN.{ℤ}
+use denote.Ref.{now}
+use mir.Facts.{toZ-ofZ}
+use Rattle.desk.specs.Desk.{deskMeasure, answerOf}
+use borrow.Author.Needs.{needs}
+use Rattle.desk.proofs.pailradish_measure.Statement.{statement}
+use Rattle.desk.proofs.pailradish_measure.Tie as tie
+
+measured-requires : tie.Need-measured-requires
+measured-requires c κs = search needs
+
+answer-of-requires : tie.Need-answer-of-requires
+answer-of-requires c κs = search needs
+
+returns : tie.Need-returns
+returns c =
+    let a = c .before .before .before .before in
+    let reply = c .before .measured .ensures ∙ ap (λ (z : ℤ). deskMeasure (now (a .args .font)) z (now (a .args .label))) (toZ-ofZ (a .fits .x)) in
+    c .answer-of .ensures ∙ ap answerOf reply
+
+pub pailradish-measure-spec : {M : Type 1} → statement M
+pailradish-measure-spec = tie.close (tie.spec measured-requires answer-of-requires returns)

@@ -1,0 +1,26 @@
+-- `fontbytes::pointers` meets its contract: the part begins and ends where the definition says.
+-- Assumes nothing.
+use Rattle.fontbytes.specs.Parts.{pointerBytes}
+use borrow.Author.Needs.{needs}
+use Rattle.fontbytes.proofs.pointers.Statement.{statement}
+use Rattle.fontbytes.proofs.pointers.Tie as tie
+
+pointers-at-requires : tie.Need-pointers-at-requires
+pointers-at-requires c κs = search needs
+
+codes-requires : tie.Need-codes-requires
+codes-requires c κs = search needs
+
+add-part-in : tie.Need-add-part-in
+add-part-in c = search needs
+
+part-in-requires : tie.Need-part-in-requires
+part-in-requires c κs = search needs
+
+returns : tie.Need-returns
+unfolding pointerBytes
+returns c = cc
+
+pub pointers-spec : {M : Type 1} → statement M
+pointers-spec =
+    tie.close (tie.spec pointers-at-requires codes-requires add-part-in part-in-requires returns)

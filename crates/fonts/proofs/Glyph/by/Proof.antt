@@ -1,0 +1,52 @@
+-- `fonts::Glyph::by` meets its contract, field by field.
+-- Assumes nothing.
+use Rattle.fonts.specs.Face.{glyphBy}
+use borrow.Author.Needs.{needs}
+use Rattle.fonts.proofs.Glyph.by.Statement.{statement}
+use Rattle.fonts.proofs.Glyph.by.Tie as tie
+
+shown-requires : tie.Need-shown-requires
+shown-requires c κs = search needs
+
+bitmap-at-requires : tie.Need-bitmap-at-requires
+bitmap-at-requires c κs = search needs
+
+cast-t7 : tie.Need-cast-t7
+cast-t7 c = search needs
+
+columns-requires : tie.Need-columns-requires
+columns-requires c κs = search needs
+
+height-requires : tie.Need-height-requires
+height-requires c κs = search needs
+
+cast-t10 : tie.Need-cast-t10
+cast-t10 c = search needs
+
+place-requires : tie.Need-place-requires
+place-requires c κs = search needs
+
+advance-requires : tie.Need-advance-requires
+advance-requires c κs = search needs
+
+exists-requires : tie.Need-exists-requires
+exists-requires c κs = search needs
+
+returns : tie.Need-returns
+unfolding glyphBy
+returns c = cc
+
+pub by-spec : {M : Type 1} → statement M
+by-spec =
+    tie.close
+    (tie.spec
+    shown-requires
+    bitmap-at-requires
+    cast-t7
+    columns-requires
+    height-requires
+    cast-t10
+    place-requires
+    advance-requires
+    exists-requires
+    returns)
