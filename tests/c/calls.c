@@ -1,0 +1,270 @@
+/* Answers a written list of calls (docs/REPLAY.md) by calling the exports of libdesk.a, and watches the memory that each call is lent.
+
+       calls before|behind|heap < LIST > ANSWERS
+
+   The argument says where the lent slices stand: see lent.h. `glyph`, `dots`, `row` and `program` are no exports, and are passed over.
+   Status 1: a call has broken its promise, which standard error names. Status 2: no list. */
+#include <inttypes.h>
+#include <stdio.h>
+#include <string.h>
+
+#include "lent.h"
+#include "pailradish.h"
+
+static slice font = {.name = "font", .size = 2, .most = 70000};
+static slice cu = {.name = "cu", .size = 2, .most = 530000};
+static slice panel = {.name = "panel", .size = 2, .most = 40000};
+static slice keep1 = {.name = "keep1", .size = 2, .most = 40000};
+static slice flip1 = {.name = "flip1", .size = 2, .most = 40000};
+static slice keep2 = {.name = "keep2", .size = 2, .most = 40000};
+static slice flip2 = {.name = "flip2", .size = 2, .most = 40000};
+static slice output = {.name = "out", .size = 2, .most = 70000};
+static slice file = {.name = "file", .size = 1, .most = 140000};
+static slice *const registers[] = {&font, &cu, &panel, &keep1, &flip1, &keep2, &flip2, &output, &file};
+
+/* No registers: the words of the last conversion, the bytes of the font's words, and the label of a call. */
+static slice last_written = {.name = "written", .size = 2, .most = 70000};
+static slice font_bytes = {.name = "the font's bytes", .size = 1, .most = 140000};
+static slice label = {.name = "label", .size = 1, .most = 1000};
+
+#define COUNT(array) (sizeof(array) / sizeof(array)[0])
+
+/* The answers. Beside a refusal every other number is 0. */
+
+static void answer_number(const char *call, uint32_t number)
+{
+    take_back(number != 0);
+    printf("%s %" PRIu32 "\n", call, number);
+}
+
+static void answer_reply(const char *call, pailradish_reply reply)
+{
+    take_back(reply.number != 0);
+    if (reply.number != 0 && (reply.pen != 0 || reply.substitutes != 0))
+        breach("a number beside a refusal", call);
+    printf("%s %" PRIu32 " %" PRId32 " %" PRIu32 "\n", call, reply.number, reply.pen, reply.substitutes);
+}
+
+/* The calls of the desk, which hands its font as bytes. Arguments are read into variables first: C does not say in which order it evaluates them. */
+
+static void check_bytes(const char *call, const slice *bytes)
+{
+    answer_number(call, pailradish_check(lend(bytes), bytes->count));
+}
+
+static void measure_bytes(const char *call, const slice *bytes)
+{
+    int32_t x = next_signed_number();
+
+    rest_of_line(&label);
+    answer_reply(call, pailradish_measure(lend(bytes), bytes->count, x, lend(&label), label.count));
+}
+
+/* In bytes the high one of a word comes first. */
+static const slice *bytes_of_font(void)
+{
+    const uint16_t *words = font.values;
+
+    set_count(&font_bytes, 2 * font.count);
+    for (size_t place = 0; place < font.count; place++) {
+        ((uint8_t *)font_bytes.values)[2 * place] = (uint8_t)(words[place] >> 8);
+        ((uint8_t *)font_bytes.values)[2 * place + 1] = (uint8_t)words[place];
+    }
+    return &font_bytes;
+}
+
+static void check(void)
+{
+    check_bytes("check", bytes_of_font());
+}
+
+static void measure(void)
+{
+    measure_bytes("measure", bytes_of_font());
+}
+
+static void desk_check(void)
+{
+    check_bytes("deskcheck", &file);
+}
+
+static void desk_measure(void)
+{
+    measure_bytes("deskmeasure", &file);
+}
+
+/* The calls on a panel and on sheets. */
+
+typedef struct {
+    uint32_t row_words, rows, width;
+} shape;
+
+typedef struct {
+    slice *keep, *flip;
+} sheet;
+
+static shape next_shape(void)
+{
+    shape read;
+
+    read.row_words = next_number();
+    read.rows = next_number();
+    read.width = next_number();
+    return read;
+}
+
+static sheet next_sheet(void)
+{
+    return next_number() == 1 ? (sheet){&keep1, &flip1} : (sheet){&keep2, &flip2};
+}
+
+/* What a label call has beside its font and its shape. The label itself goes into its slice. */
+typedef struct {
+    uint32_t strip;
+    int32_t x, y;
+    uint32_t mode;
+} label_call;
+
+static label_call next_label_call(void)
+{
+    label_call read;
+
+    read.strip = next_number();
+    read.x = next_signed_number();
+    read.y = next_signed_number();
+    read.mode = next_number();
+    rest_of_line(&label);
+    return read;
+}
+
+static void paint(void)
+{
+    shape s = next_shape();
+    label_call c = next_label_call();
+
+    answer_reply("paint", pailradish_paint(lend(&font), font.count, s.row_words, s.rows, s.width, c.strip, c.x, c.y, c.mode, lend(&label),
+                                           label.count, lend_to_write(&panel), panel.count));
+}
+
+static void fresh(void)
+{
+    sheet t = next_sheet();
+    shape s = next_shape();
+
+    answer_number("fresh", pailradish_fresh(s.row_words, s.rows, s.width, lend_to_write(t.keep), t.keep->count, lend_to_write(t.flip),
+                                            t.flip->count));
+}
+
+static void gather(void)
+{
+    sheet t = next_sheet();
+    shape s = next_shape();
+    label_call c = next_label_call();
+
+    answer_reply("gather", pailradish_gather(lend(&font), font.count, s.row_words, s.rows, s.width, c.strip, c.x, c.y, c.mode, lend(&label),
+                                             label.count, lend_to_write(t.keep), t.keep->count, lend_to_write(t.flip), t.flip->count));
+}
+
+static void join(void)
+{
+    shape s = next_shape();
+
+    answer_number("join", pailradish_join(s.row_words, s.rows, s.width, lend_to_write(&keep1), keep1.count, lend_to_write(&flip1), flip1.count,
+                                          lend(&keep2), keep2.count, lend(&flip2), flip2.count));
+}
+
+static void apply(void)
+{
+    sheet t = next_sheet();
+    shape s = next_shape();
+
+    answer_number("apply", pailradish_apply(s.row_words, s.rows, s.width, lend(t.keep), t.keep->count, lend(t.flip), t.flip->count,
+                                            lend_to_write(&panel), panel.count));
+}
+
+/* Conversion. */
+
+static void copy_words(slice *to, const slice *from, size_t count)
+{
+    set_count(to, count);
+    memcpy(to->values, from->values, count * sizeof(uint16_t));
+}
+
+static void convert(void)
+{
+    pailradish_conversion done = pailradish_convert(lend(&cu), cu.count, lend_to_write(&output), output.count);
+
+    take_back(done.number != 0);
+    if (done.number != 0 && done.words != 0)
+        breach("a number beside a refusal", "convert");
+    if (done.words > output.count)
+        breach("more words written than there are", "convert");
+    copy_words(&last_written, &output, done.words);
+    printf("convert %" PRIu32 " %zu\n", done.number, done.words);
+}
+
+static void written(void)
+{
+    copy_words(&font, &last_written, last_written.count);
+}
+
+static slice *register_named(const char *name)
+{
+    for (size_t place = 0; place < COUNT(registers); place++) {
+        if (strcmp(registers[place]->name, name) == 0)
+            return registers[place];
+    }
+    return NULL;
+}
+
+static void show(void)
+{
+    const slice *shown = register_named(next_field());
+
+    if (shown == NULL)
+        no_list("no such register");
+    print_slice(shown);
+}
+
+static void pass_over(void)
+{
+}
+
+static const struct {
+    const char *name;
+    void (*perform)(void);
+} commands[] = {
+    {"check", check},     {"measure", measure}, {"deskcheck", desk_check}, {"deskmeasure", desk_measure},
+    {"paint", paint},     {"fresh", fresh},     {"gather", gather},        {"join", join},
+    {"apply", apply},     {"convert", convert}, {"written", written},      {"show", show},
+    {"glyph", pass_over}, {"dots", pass_over},  {"row", pass_over},        {"program", pass_over},
+};
+
+static void perform(const char *name)
+{
+    slice *set = register_named(name);
+
+    if (set != NULL) {
+        rest_of_line(set);
+        return;
+    }
+    for (size_t place = 0; place < COUNT(commands); place++) {
+        if (strcmp(commands[place].name, name) == 0) {
+            commands[place].perform();
+            return;
+        }
+    }
+    no_list("no such command");
+}
+
+int main(int count, char **arguments)
+{
+    if (count != 2 || !place_slices(arguments[1]))
+        no_list("usage: calls before|behind|heap < LIST > ANSWERS");
+    for (size_t place = 0; place < COUNT(registers); place++)
+        set_count(registers[place], 0);
+    set_count(&last_written, 0);
+    while (next_line())
+        perform(next_field());
+    return 0;
+}
