@@ -3,6 +3,7 @@
 pub mod call_lists;
 pub mod cu_files;
 mod cu_scenes;
+mod desk_scenes;
 pub mod font_files;
 mod font_scenes;
 pub mod label_calls;
@@ -29,16 +30,18 @@ pub enum Kind {
     Sheets,
     Cu,
     Conversions,
+    Desk,
 }
 
 impl Kind {
     #[cfg(test)]
-    pub const ALL: [Kind; 5] = [
+    pub const ALL: [Kind; 6] = [
         Kind::Fonts,
         Kind::Labels,
         Kind::Sheets,
         Kind::Cu,
         Kind::Conversions,
+        Kind::Desk,
     ];
 
     pub fn named(name: &str) -> Option<Kind> {
@@ -48,6 +51,7 @@ impl Kind {
             "sheets" => Some(Kind::Sheets),
             "cu" => Some(Kind::Cu),
             "conversions" => Some(Kind::Conversions),
+            "desk" => Some(Kind::Desk),
             _ => None,
         }
     }
@@ -59,6 +63,7 @@ impl Kind {
             Kind::Sheets => Box::new(sheet_scenes::SheetScenes),
             Kind::Cu => Box::new(cu_scenes::CuScenes),
             Kind::Conversions => Box::new(cu_scenes::ConversionScenes),
+            Kind::Desk => Box::new(desk_scenes::DeskScenes),
         }
     }
 }

@@ -24,7 +24,7 @@ use coverage::Coverage;
 use replay::Stopped;
 
 const USAGE: &str = "usage: second replay < LIST > ANSWERS
-       second generate fonts|labels|sheets|cu|conversions SEED COUNT > LIST
+       second generate fonts|labels|sheets|cu|conversions|desk SEED COUNT > LIST
        second programs SEED COUNT DIRECTORY
        second coverage < ANSWERS";
 

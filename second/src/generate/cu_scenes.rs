@@ -4,9 +4,10 @@ use super::cu_files::{
     damaged_file, file_of_most_bytes, file_of_most_columns, file_of_most_output,
     file_of_odd_output, good_file, large_file, special_file, CuFile,
 };
+use super::desk_scenes::{make_odd, measure_at_random};
 use super::font_files::{any_font, MadeFont};
 use super::font_scenes::ask_for_pictures;
-use super::label_calls::{good_call, good_slice, random_label, random_x, small_shape};
+use super::label_calls::{good_call, good_slice, small_shape};
 use super::random::Random;
 use super::scene::Scene;
 use super::Scenes;
@@ -188,14 +189,6 @@ fn program_limit(turn: usize) -> CuFile {
     }
 }
 
-fn make_odd(random: &mut Random, bytes: &mut Vec<u8>) {
-    if bytes.is_empty() || random.one_in(2) {
-        bytes.push(random.byte());
-    } else {
-        bytes.pop();
-    }
-}
-
 /// Two of eight numbers come here, and together they go through all sorts of fonts.
 fn desk_scene(random: &mut Random, number: usize, scene: &mut Scene) {
     let font = any_font(random, 2 * (number / 8) + number % 2);
@@ -205,9 +198,5 @@ fn desk_scene(random: &mut Random, number: usize, scene: &mut Scene) {
     }
     scene.set_file(&bytes);
     scene.line("deskcheck");
-    for _ in 0..2 {
-        let x = random_x(random, &font);
-        let label = random_label(random, &font);
-        scene.measure("deskmeasure", x, &label);
-    }
+    measure_at_random(random, &font, scene);
 }

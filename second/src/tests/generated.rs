@@ -3,10 +3,12 @@
 use std::collections::BTreeSet;
 
 use super::answers_to;
-use crate::coverage::Coverage;
+use crate::coverage::{Coverage, KINDS};
 use crate::cu::program;
+use crate::desk::measure_label;
 use crate::generate::sheet_scenes::{ONE_LIST, ONE_LIST_ENDS};
 use crate::generate::{program_inputs, write_list, Kind};
+use crate::list::{parse, Command};
 use crate::refusal::number_of;
 
 pub fn generated(kind: Kind, seed: u64, count: usize) -> String {
@@ -74,6 +76,86 @@ fn every_refusal_of_a_conversion_appears_and_no_other() {
     assert_eq!(coverage.numbers("paint"), [0]);
     for only_here in ["program", "deskcheck", "deskmeasure"] {
         assert!(coverage.numbers(only_here).is_empty(), "{only_here}");
+    }
+}
+
+#[test]
+fn every_refusal_of_the_desk_appears_and_no_other() {
+    let answers = answers_to(&generated(Kind::Desk, 1980, 1_000)).unwrap();
+    let coverage = Coverage::of(answers.as_bytes()).unwrap();
+    let of_a_font = [0, 1, 2, 3, 4, 5, 6, 7, 14];
+    assert_eq!(coverage.numbers("deskcheck"), of_a_font);
+    let of_a_label = [0, 1, 2, 3, 4, 5, 6, 7, 10, 11, 14];
+    assert_eq!(coverage.numbers("deskmeasure"), of_a_label);
+    for name in KINDS.iter().filter(|name| !name.starts_with("desk")) {
+        assert!(coverage.numbers(name).is_empty(), "{name}");
+    }
+}
+
+/// One call of a desk list, and what it answers.
+struct Measured {
+    file: Vec<u8>,
+    x: i64,
+    label: Vec<u8>,
+    number: i64,
+    substitutes: i64,
+}
+
+fn desk_measures() -> Vec<Measured> {
+    let mut file = Vec::new();
+    let mut measures = Vec::new();
+    for line in generated(Kind::Desk, 1980, 1_000).lines() {
+        match parse(line).unwrap().expect("every line has a command") {
+            Command::SetFile(bytes) => file = bytes,
+            Command::DeskMeasure { x, label } => {
+                let outcome = measure_label(&file, x, &label);
+                measures.push(Measured {
+                    file: file.clone(),
+                    x,
+                    label,
+                    number: number_of(&outcome).into(),
+                    substitutes: outcome.map_or(0, |pen| pen.substitutes),
+                });
+            }
+            _ => (),
+        }
+    }
+    measures
+}
+
+#[test]
+fn the_desk_is_handed_files_of_every_sort() {
+    let measures = desk_measures();
+    for kerned in [false, true] {
+        let is_of_it =
+            |asked: &&Measured| asked.number == 0 && (asked.file[0] & 0x10 != 0) == kerned;
+        let of_it = measures.iter().filter(is_of_it);
+        let with_substitutes: BTreeSet<bool> = of_it.map(|asked| asked.substitutes > 0).collect();
+        assert_eq!(with_substitutes.len(), 2, "kerned: {kerned}");
+    }
+    let lengths: BTreeSet<usize> = measures.iter().map(|asked| asked.file.len()).collect();
+    for length in 0..30 {
+        assert!(lengths.contains(&length), "a file of {length} bytes");
+    }
+}
+
+#[test]
+fn the_desk_is_handed_pens_and_labels_at_their_limits_and_past_them() {
+    let measures = desk_measures();
+    for (x, number) in [(-1_025, 10), (-1_024, 0), (1_023, 0), (1_024, 10)] {
+        let appears = measures
+            .iter()
+            .any(|asked| (asked.x, asked.number) == (x, number));
+        assert!(appears, "x of {x}");
+    }
+    for (length, number) in [(0, 0), (1, 0), (64, 0), (65, 11), (1_000, 11)] {
+        let mut answered = measures
+            .iter()
+            .map(|asked| (asked.label.len(), asked.number));
+        assert!(
+            answered.any(|pair| pair == (length, number)),
+            "{length} bytes"
+        );
     }
 }
 
