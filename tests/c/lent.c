@@ -6,21 +6,22 @@
 #include <sys/mman.h>
 #include <unistd.h>
 
-enum { MOST_LENT = 4 };
-
 static enum { BEFORE, BEHIND, HEAP } placement;
 
-/* One slice that is out. Its pages are [pages, pages + length), and its own bytes are [at, at + bytes) of them. */
-static struct {
+/* One slice that is out: its own bytes are `bytes` from `at` on; all others of the `length` bytes from `pages` on are guards. */
+typedef struct {
     const slice *from;
     slice *to; /* null where it is lent to be read alone */
     uint8_t *pages;
     size_t length;
     uint8_t *at;
     size_t bytes;
-} out[MOST_LENT];
+    uint8_t guard;
+} loan;
 
-static size_t count_out;
+enum { MOST_LOANS = 4 };
+static loan loans[MOST_LOANS];
+static size_t loan_count;
 
 _Noreturn void breach(const char *what, const char *where)
 {
@@ -47,46 +48,45 @@ static size_t page(void)
     return (size_t)sysconf(_SC_PAGESIZE);
 }
 
-/* A byte of its own for each slice of a call: to copy one guard over another, or to join two, does not leave it as it was. */
-static uint8_t guard(size_t place)
+/* Whole pages for the slice, one at least, between two without access. */
+static void map_pages(loan *made)
 {
-    return (uint8_t)(0xA1 + 0x17 * place);
-}
-
-/* Pages with access for so many bytes, at least one, between two without. */
-static uint8_t *map_pages(size_t length)
-{
+    size_t length = made->bytes == 0 ? page() : (made->bytes + page() - 1) / page() * page();
     uint8_t *all = mmap(NULL, length + 2 * page(), PROT_NONE, MAP_PRIVATE | MAP_ANONYMOUS, -1, 0);
 
     if (all == MAP_FAILED || mprotect(all + page(), length, PROT_READ | PROT_WRITE) != 0)
         breach("no memory", "mmap");
-    return all + page();
+    made->pages = all + page();
+    made->length = length;
+    made->at = made->pages + (placement == BEFORE ? length - made->bytes : 0);
+    memset(made->pages, made->guard, length);
+}
+
+static void take_from_heap(loan *made)
+{
+    made->at = malloc(made->bytes);
+    if (made->at == NULL)
+        breach("no memory", "malloc");
 }
 
 static void *lend_copy(const slice *from, slice *to)
 {
-    size_t place = count_out++;
-    size_t bytes = from->count * from->size;
+    loan *made = &loans[loan_count];
 
-    if (place == MOST_LENT)
+    if (loan_count == MOST_LOANS)
         breach("too many slices for one call", from->name);
-    out[place].from = from;
-    out[place].to = to;
-    out[place].bytes = bytes;
-    if (placement == HEAP) {
-        out[place].at = malloc(bytes);
-        if (out[place].at == NULL)
-            breach("no memory", "malloc");
-    } else {
-        size_t length = bytes == 0 ? page() : (bytes + page() - 1) / page() * page();
-
-        out[place].length = length;
-        out[place].pages = map_pages(length);
-        memset(out[place].pages, guard(place), length);
-        out[place].at = out[place].pages + (placement == BEFORE ? length - bytes : 0);
-    }
-    memcpy(out[place].at, from->values, bytes);
-    return out[place].at;
+    made->from = from;
+    made->to = to;
+    made->bytes = from->count * from->size;
+    /* Each slice of a call has a guard byte of its own, so that to copy one guard over another, or to join them, changes it. */
+    made->guard = (uint8_t)(0xA1 + 0x17 * loan_count);
+    if (placement == HEAP)
+        take_from_heap(made);
+    else
+        map_pages(made);
+    memcpy(made->at, from->values, made->bytes);
+    loan_count++;
+    return made->at;
 }
 
 const void *lend(const slice *from)
@@ -99,14 +99,6 @@ void *lend_to_write(slice *from)
     return lend_copy(from, from);
 }
 
-static void release(size_t place)
-{
-    if (placement == HEAP)
-        free(out[place].at);
-    else
-        munmap(out[place].pages - page(), out[place].length + 2 * page());
-}
-
 static bool all_are(const uint8_t *from, const uint8_t *to, uint8_t byte)
 {
     unsigned differences = 0;
@@ -116,31 +108,41 @@ static bool all_are(const uint8_t *from, const uint8_t *to, uint8_t byte)
     return differences == 0;
 }
 
-static void check_guards(size_t place)
+static void check_guards(const loan *made)
 {
-    const uint8_t *at = out[place].at;
-    const uint8_t *pages = out[place].pages;
+    if (!all_are(made->pages, made->at, made->guard))
+        breach("written in front of the slice", made->from->name);
+    if (!all_are(made->at + made->bytes, made->pages + made->length, made->guard))
+        breach("written behind the slice", made->from->name);
+}
 
-    if (!all_are(pages, at, guard(place)))
-        breach("written in front of the slice", out[place].from->name);
-    if (!all_are(at + out[place].bytes, pages + out[place].length, guard(place)))
-        breach("written behind the slice", out[place].from->name);
+/* The call had a copy, so the slice itself still holds what the call was lent. */
+static void check_unchanged(const loan *made, const char *what)
+{
+    if (memcmp(made->from->values, made->at, made->bytes) != 0)
+        breach(what, made->from->name);
+}
+
+static void release(const loan *made)
+{
+    if (placement == HEAP)
+        free(made->at);
+    else
+        munmap(made->pages - page(), made->length + 2 * page());
 }
 
 void take_back(bool refused)
 {
-    for (size_t place = 0; place < count_out; place++) {
-        const slice *from = out[place].from;
-        slice *to = out[place].to;
-
+    for (const loan *made = loans; made < loans + loan_count; made++) {
         if (placement != HEAP)
-            check_guards(place);
-        /* The register was lent as a copy, so it still holds what the call was lent. */
-        if ((to == NULL || refused) && memcmp(from->values, out[place].at, out[place].bytes) != 0)
-            breach(refused ? "changed by a call that was refused" : "changed, though lent to be read", from->name);
-        if (to != NULL)
-            memcpy(to->values, out[place].at, out[place].bytes);
-        release(place);
+            check_guards(made);
+        if (made->to == NULL)
+            check_unchanged(made, "changed, though lent to be read");
+        else if (refused)
+            check_unchanged(made, "changed by a call that was refused");
+        else
+            memcpy(made->to->values, made->at, made->bytes);
+        release(made);
     }
-    count_out = 0;
+    loan_count = 0;
 }
