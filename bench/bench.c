@@ -1,0 +1,404 @@
+/* Calls the exports, or plain C that does the same, on inputs that are made here and are the same each time.
+
+       bench list                   prints the cases: kind|case|size|title
+       bench check                  both give the same reply and the same words in every case, and on many inputs at random
+       bench CASE SIZE WHO TIMES    sets up a case and calls it so many times; WHO is proved or plain */
+#include "pailradish.h"
+#include "plain.h"
+
+#include <stdbool.h>
+#include <stdio.h>
+#include <stdlib.h>
+#include <string.h>
+
+enum { FONT = 65536, PANEL = 32768, CU = 65536, OUT = 65536 };
+
+/* Everything that a call is handed, and its reply: all of it is compared. What calls write stands first. */
+static struct state {
+    uint16_t panel[PANEL], keep[PANEL], flip[PANEL], out[OUT], then_keep[PANEL], then_flip[PANEL], cu[CU], font[FONT];
+    uint8_t font_bytes[2 * FONT], label[64];
+    size_t font_words, label_bytes, cu_words;
+    uint32_t row_words, rows, width, strip, mode;
+    int32_t x, y;
+    size_t panel_words;
+    pailradish_reply reply;
+    pailradish_conversion conversion;
+} s, first;
+
+/* Numbers at random, the same each time. */
+static uint64_t seed;
+
+static uint32_t any(void)
+{
+    seed = seed * 6364136223846793005u + 1442695040888963407u;
+    return (uint32_t)(seed >> 33);
+}
+
+static uint32_t within(uint32_t least, uint32_t most)
+{
+    return least + any() % (most - least + 1);
+}
+
+static void fill(uint16_t *words, size_t count)
+{
+    for (size_t i = 0; i < count; i++)
+        words[i] = (uint16_t)any();
+}
+
+/* The inputs. */
+
+static void spell_font(void)
+{
+    for (size_t i = 0; i < s.font_words; i++) {
+        s.font_bytes[2 * i] = (uint8_t)(s.font[i] >> 8);
+        s.font_bytes[2 * i + 1] = (uint8_t)s.font[i];
+    }
+}
+
+/* The font and the CU file of the paper's case C1. */
+static const uint16_t c1_font[27] = {
+    0x9000, 0x0041, 0x0044, 0x0004, 0xFFFF, 0xFFFF, 0x0004, 0x0003, 0x000E, 0x0002, 0x0001, 0x0000, 0x0001, 0x4F00,
+    0xBF00, 0x1F00, 0x0000, 0x0003, 0x0004, 0x0004, 0x0004, 0x0008, 0x0104, 0x0000, 0xFFFF, 0x0102, 0x0004};
+static const uint16_t c1_cu[17] = {
+    0x0003, 0x0001, 0x0041, 0x0004, 0x2000, 0x5000, 0x0000, 0x0042, 0x0000, 0x0000, 0x8000, 0x8000, 0x0044, 0x0002, 0x0000, 0x0000, 0x0000};
+
+static void small_font(void)
+{
+    s.font_words = 27;
+    memcpy(s.font, c1_font, sizeof c1_font);
+    spell_font();
+}
+
+/* A kerned font of so many codes, each with a picture of so many columns, dots at random, moved right by one dot and set two columns further. */
+static void kerned_font(unsigned min, unsigned codes, unsigned raster, unsigned height, unsigned ascent, unsigned columns)
+{
+    unsigned bitmap = raster * height;
+    const uint16_t header[13] = {0x9000, min, min + codes - 1, columns + 1, 0, ascent - height, columns, height, bitmap + codes + 7, ascent,
+                                 height - ascent, 0, raster};
+    memcpy(s.font, header, sizeof header);
+    uint16_t *pointers = s.font + 13 + bitmap, *widths = pointers + codes + 2;
+    fill(s.font + 13, bitmap);
+    for (unsigned k = 0; k < codes + 2; k++)
+        pointers[k] = (uint16_t)(k * columns);
+    for (unsigned k = 0; k < codes + 1; k++)
+        widths[k] = (uint16_t)(256 + columns + 1);
+    s.font_words = bitmap + 2 * codes + 16;
+    spell_font();
+}
+
+/* 64 KB. */
+static void large_font(void)
+{
+    kerned_font(0, 256, 403, 80, 60, 25);
+}
+
+/* A font as labels use it: codes 32 to 126, 12 rows, 7 columns a picture, and a pen that moves by 8. */
+static void label_font(void)
+{
+    kerned_font(32, 95, 42, 12, 9, 7);
+}
+
+static void label(size_t bytes)
+{
+    for (size_t i = 0; i < bytes; i++)
+        s.label[i] = (uint8_t)(33 + i);
+    s.label_bytes = bytes;
+}
+
+static void shape(uint32_t row_words, uint32_t rows, uint32_t width)
+{
+    s.row_words = row_words;
+    s.rows = rows;
+    s.width = width;
+    s.panel_words = (size_t)row_words * rows;
+}
+
+static void at(uint32_t strip, int32_t x, int32_t y, uint32_t mode)
+{
+    s.strip = strip;
+    s.x = x;
+    s.y = y;
+    s.mode = mode;
+}
+
+/* A CU file of so many characters from code 65 on; dots at random, or one in the last row and column of each. */
+static void cu_file(unsigned characters, unsigned rows, unsigned row_words, bool last_dot_only)
+{
+    uint16_t *next = s.cu;
+    *next++ = (uint16_t)rows;
+    *next++ = (uint16_t)row_words;
+    for (unsigned k = 0; k < characters; k++) {
+        *next++ = (uint16_t)((65 + k) % 256);
+        *next++ = (uint16_t)within(1, 200);
+        size_t raster = (size_t)rows * row_words;
+        if (last_dot_only)
+            memset(next, 0, 2 * raster), next[raster - 1] = 1;
+        else
+            fill(next, raster);
+        next += raster;
+    }
+    s.cu_words = (size_t)(next - s.cu);
+}
+
+/* A call of each export, and of its plain C. */
+
+#define LABEL s.row_words, s.rows, s.width, s.strip, s.x, s.y, s.mode, s.label, s.label_bytes
+#define SHEET s.keep, s.panel_words, s.flip, s.panel_words
+
+#define BOTH(who) \
+    static void who##_call_check(void) { s.reply.number = who##_check(s.font_bytes, 2 * s.font_words); } \
+    static void who##_call_measure(void) { s.reply = who##_measure(s.font_bytes, 2 * s.font_words, s.x, s.label, s.label_bytes); } \
+    static void who##_call_paint(void) { s.reply = who##_paint(s.font, s.font_words, LABEL, s.panel, s.panel_words); } \
+    static void who##_call_gather(void) { s.reply = who##_gather(s.font, s.font_words, LABEL, SHEET); } \
+    static void who##_call_fresh(void) { s.reply.number = who##_fresh(s.row_words, s.rows, s.width, SHEET); } \
+    static void who##_call_join(void) \
+    { \
+        s.reply.number = who##_join(s.row_words, s.rows, s.width, SHEET, s.then_keep, s.panel_words, s.then_flip, s.panel_words); \
+    } \
+    static void who##_call_apply(void) { s.reply.number = who##_apply(s.row_words, s.rows, s.width, SHEET, s.panel, s.panel_words); } \
+    static void who##_call_convert(void) \
+    { \
+        pailradish_conversion c = who##_convert(s.cu, s.cu_words, s.out, OUT); \
+        s.conversion.number = c.number; /* one by one: between them the struct has bytes that mean nothing */ \
+        s.conversion.words = c.words; \
+    }
+
+BOTH(pailradish)
+BOTH(plain)
+
+typedef void call(void);
+static call *const proved[] = {pailradish_call_check, pailradish_call_measure, pailradish_call_paint, pailradish_call_gather,
+                               pailradish_call_fresh, pailradish_call_join, pailradish_call_apply, pailradish_call_convert};
+static call *const plain[] = {plain_call_check, plain_call_measure, plain_call_paint, plain_call_gather,
+                              plain_call_fresh, plain_call_join, plain_call_apply, plain_call_convert};
+enum { CHECK, MEASURE, PAINT, GATHER, FRESH, JOIN, APPLY, CONVERT };
+
+/* The cases. */
+
+static void set_small_font(unsigned n) { (void)n, small_font(); }
+static void set_large_font(unsigned n) { (void)n, large_font(); }
+static void set_codes(unsigned n) { kerned_font(0, n, 130, 12, 9, 8), label(8), memset(s.label, 0, 8); }
+static void set_bitmap_rows(unsigned n) { kerned_font(32, 95, 42, n, n, 7); }
+static void set_label(unsigned n) { label_font(), shape(128, 16, 64), label(n), at(31, 0, 11, 0); }
+static void set_erased(unsigned n) { set_label(n), at(31, 0, 11, 1); }
+static void set_inverted(unsigned n) { set_label(n), at(31, 0, 11, 2); }
+static void set_left_edge(unsigned n) { set_label(n), at(31, -37, 11, 0); }
+static void set_top_edge(unsigned n) { set_label(n), at(31, 0, 2, 0); }
+static void set_large_label(unsigned n) { large_font(), shape(128, 16, 64), label(n), at(31, 0, 11, 0); }
+static void set_picture_rows(unsigned n) { kerned_font(32, 95, 42, n, n, 7), shape(128, 256, 64), label(8), at(31, 0, n, 0); }
+static void set_panel_rows(unsigned n) { label_font(), shape(128, n, 64), label(8), at(31, 0, 11, 0); }
+static void set_strip_columns(unsigned n) { label_font(), shape(128, 16, n), label(8), at(31, 0, 11, 0); }
+static void set_panel(unsigned n)
+{
+    n == 24 ? shape(8, 3, 4) : shape(128, n / 128, 64);
+}
+static void set_small_cu(unsigned n)
+{
+    (void)n;
+    memcpy(s.cu, c1_cu, sizeof c1_cu);
+    s.cu_words = 17;
+}
+static void set_large_cu(unsigned n) { cu_file(n, 126, 2, false); }
+static void set_last_dots(unsigned n) { cu_file(n, 126, 2, true); }
+static void set_characters(unsigned n) { cu_file(n, 16, 1, false); }
+static void set_cu_rows(unsigned n) { cu_file(16, n, 1, false); }
+
+/* A case has one size. A series has several. */
+static const struct one {
+    const char *name, *title;
+    int export;
+    void (*set)(unsigned);
+    unsigned sizes[6];
+} cases[] = {
+    {"check-c1", "check: the font of C1, 27 words", CHECK, set_small_font, {27}},
+    {"check-64k", "check: a kerned font of 256 codes, 32,768 words", CHECK, set_large_font, {32768}},
+    {"measure-8", "measure: 8 bytes", MEASURE, set_label, {8}},
+    {"measure-64", "measure: 64 bytes", MEASURE, set_label, {64}},
+    {"measure-64k", "measure: 8 bytes, the font of 32,768 words", MEASURE, set_large_label, {8}},
+    {"paint-8", "paint: 8 bytes, all inside the strip", PAINT, set_label, {8}},
+    {"paint-64", "paint: 64 bytes, 8 of them inside", PAINT, set_label, {64}},
+    {"paint-left", "paint: 16 bytes, clipped left and right", PAINT, set_left_edge, {16}},
+    {"paint-top", "paint: 8 bytes, 7 of 12 rows above the panel", PAINT, set_top_edge, {8}},
+    {"gather-paint", "gather: 8 bytes, Paint", GATHER, set_label, {8}},
+    {"gather-erase", "gather: 8 bytes, Erase", GATHER, set_erased, {8}},
+    {"gather-invert", "gather: 8 bytes, Invert", GATHER, set_inverted, {8}},
+    {"fresh-24", "fresh: R = 8, H = 3", FRESH, set_panel, {24}},
+    {"fresh-32768", "fresh: R = 128, H = 256", FRESH, set_panel, {32768}},
+    {"join-24", "join: R = 8, H = 3", JOIN, set_panel, {24}},
+    {"join-32768", "join: R = 128, H = 256", JOIN, set_panel, {32768}},
+    {"apply-24", "apply: R = 8, H = 3", APPLY, set_panel, {24}},
+    {"apply-32768", "apply: R = 128, H = 256", APPLY, set_panel, {32768}},
+    {"convert-c1", "convert: the CU file of C1, 17 words", CONVERT, set_small_cu, {17}},
+    {"convert-64k", "convert: 129 characters of 126 × 32 dots, 32,768 words", CONVERT, set_large_cu, {129}},
+    {"convert-last", "convert: the same, one dot in the last row and column", CONVERT, set_last_dots, {129}},
+
+    {"check-codes", "check, by codes of the font", CHECK, set_codes, {1, 4, 16, 64, 256}},
+    {"check-rows", "check, by rows of the bitmap", CHECK, set_bitmap_rows, {1, 4, 16, 64, 256}},
+    {"measure-bytes", "measure, by bytes of the label", MEASURE, set_label, {1, 4, 8, 16, 64}},
+    {"measure-codes", "measure 8 bytes, by codes of the font", MEASURE, set_codes, {1, 4, 16, 64, 256}},
+    {"paint-bytes", "paint, by bytes of the label", PAINT, set_label, {1, 4, 8, 16, 64}},
+    {"paint-picture", "paint 8 bytes, by rows of the picture", PAINT, set_picture_rows, {1, 4, 16, 64, 256}},
+    {"paint-panel", "paint 8 bytes, by rows of the panel", PAINT, set_panel_rows, {12, 16, 64, 256}},
+    {"paint-strip", "paint 8 bytes, by columns of the strip", PAINT, set_strip_columns, {16, 32, 48, 64}},
+    {"gather-bytes", "gather Paint, by bytes of the label", GATHER, set_label, {1, 4, 8, 16, 64}},
+    {"fresh-words", "fresh, by words of the panel", FRESH, set_panel, {128, 512, 2048, 8192, 32768}},
+    {"join-words", "join, by words of the panel", JOIN, set_panel, {128, 512, 2048, 8192, 32768}},
+    {"apply-words", "apply, by words of the panel", APPLY, set_panel, {128, 512, 2048, 8192, 32768}},
+    {"convert-chars", "convert, by characters of 16 × 16 dots", CONVERT, set_characters, {1, 4, 16, 64, 250}},
+    {"convert-rows", "convert 16 characters, by rows of 16 dots", CONVERT, set_cu_rows, {1, 4, 16, 64, 128}},
+};
+enum { CASES = sizeof cases / sizeof *cases };
+
+static void set_up(const struct one *c, unsigned size)
+{
+    memset(&s, 0, sizeof s);
+    seed = 1980;
+    fill(s.panel, PANEL);
+    fill(s.keep, PANEL);
+    fill(s.flip, PANEL);
+    fill(s.then_keep, PANEL);
+    fill(s.then_flip, PANEL);
+    fill(s.out, OUT);
+    c->set(size);
+}
+
+/* Comparing. */
+
+static unsigned long compared;
+
+/* Both answer what is set up now alike, and change the same words to the same. A case must be accepted, and must alter words where its export does. */
+static void compare(const char *what, unsigned size, int export, bool accepted, bool altering)
+{
+    static struct state before;
+    before = s;
+    proved[export]();
+    first = s;
+    s = before;
+    plain[export]();
+    if (memcmp(&first, &s, sizeof s) != 0) {
+        printf("%s %u: the answers differ\n", what, size);
+        exit(1);
+    }
+    if (accepted && (s.reply.number != 0 || s.conversion.number != 0)) {
+        printf("%s %u: refused %u\n", what, size, s.reply.number + s.conversion.number);
+        exit(1);
+    }
+    if (altering && memcmp(&before, &s, offsetof(struct state, then_keep)) == 0) {
+        printf("%s %u: nothing was altered\n", what, size);
+        exit(1);
+    }
+    compared++;
+}
+
+static void any_font(void)
+{
+    unsigned codes = within(1, 40), height = within(1, 20), columns = within(0, 20);
+    kerned_font(within(0, 256 - codes), codes, (columns * (codes + 1) + 15) / 16 + within(1, 2), height, within(0, height), columns);
+    uint16_t *widths = s.font + s.font_words - codes - 1;
+    s.font[4] = (uint16_t)(within(0, 510) - 255);
+    for (unsigned k = 0; k <= codes; k++)
+        widths[k] = within(0, 3) == 0 && k < codes ? 0xFFFF : (uint16_t)(within(0, 40) << 8 | within(0, within(0, 3) ? 30 : 254));
+    if (within(0, 2) == 0 && columns > 0) {
+        /* The plain font with the same pictures; now and then a picture takes its neighbour's columns. */
+        uint16_t *pointers = widths - codes - 2;
+        for (unsigned k = 1; k < codes; k++)
+            if (within(0, 3) == 0)
+                pointers[k] = pointers[k - 1];
+        memmove(s.font + 4, s.font + 8, 2 * (s.font_words - 8));
+        s.font[0] = 0x8000;
+        s.font_words -= 4 + codes + 1;
+    }
+    spell_font();
+}
+
+static void any_panel(void)
+{
+    uint32_t row_words = within(2, 40), rows = within(1, 40);
+    shape(row_words, rows, within(1, row_words / 2));
+}
+
+/* Characters with fewer dots or none, and codes with gaps between them; code 65, the first, stays as it is. */
+static void any_cu(void)
+{
+    unsigned characters = within(1, 30), stride = 2 * within(0, 3) + 1;
+    cu_file(characters, within(1, 20), within(1, 3), false);
+    size_t raster = (size_t)s.cu[0] * s.cu[1];
+    for (unsigned k = 1; k < characters; k++) {
+        uint16_t *character = s.cu + 2 + k * (2 + raster);
+        character[0] = (uint16_t)((65 + k * stride) % 256);
+        unsigned thinner = within(0, 4);
+        for (size_t i = 0; i < raster && thinner > 0; i++)
+            character[2 + i] &= (uint16_t)(thinner < 4 ? any() & any() & any() : 0);
+    }
+}
+
+/* Calls with everything at random. The reply that stands there before is a wrong one. */
+static void random_calls(unsigned count)
+{
+    static const int label_calls[] = {CHECK, MEASURE, PAINT, GATHER, JOIN, APPLY, FRESH};
+    for (unsigned i = 0; i < count; i++) {
+        any_font();
+        any_panel();
+        label(within(0, 64));
+        for (size_t k = 0; k < s.label_bytes; k++)
+            s.label[k] = (uint8_t)any();
+        at(within(0, 31), (int32_t)within(0, 120) - 60, (int32_t)within(0, 80) - 20, within(0, 2));
+        for (unsigned k = 0; k < sizeof label_calls / sizeof *label_calls; k++) {
+            s.reply.number = 99;
+            compare("random call", i, label_calls[k], true, false);
+        }
+        s.conversion.number = 99;
+        any_cu();
+        compare("random convert", i, CONVERT, true, false);
+        /* A font that may be refused: the check alone says why. */
+        for (unsigned k = 0; k < 8; k++) {
+            static const uint16_t edges[] = {0, 1, 254, 255, 256, 257, 4096, 4097, 0x8000, 0x9000, 0xA000, 0xC000, 0xFF00, 0xFF01, 0xFFFF};
+            uint16_t *word = s.font + within(0, (uint32_t)(k % 2 ? s.font_words : 13) - 1), was = *word;
+            *word = k < 6 ? edges[within(0, sizeof edges / sizeof *edges - 1)] : (uint16_t)any();
+            spell_font();
+            compare("damaged font", i, CHECK, false, false);
+            *word = was;
+            size_t whole = s.font_words;
+            s.font_words = within(0, (uint32_t)(k % 2 ? whole : 14));
+            compare("font cut short", i, CHECK, false, false);
+            s.font_words = whole;
+        }
+        s.reply.number = 0;
+    }
+}
+
+static void check_all(void)
+{
+    for (const struct one *c = cases; c < cases + CASES; c++)
+        for (const unsigned *size = c->sizes; *size; size++) {
+            set_up(c, *size);
+            compare(c->name, *size, c->export, true, c->export >= PAINT);
+        }
+    set_up(cases, 27);
+    random_calls(500);
+    printf("%lu calls compared, all equal\n", compared);
+}
+
+int main(int count, char **words)
+{
+    if (count == 2 && strcmp(words[1], "list") == 0) {
+        for (const struct one *c = cases; c < cases + CASES; c++)
+            for (const unsigned *size = c->sizes; *size; size++)
+                printf("%s|%s|%u|%s\n", c->sizes[1] ? "series" : "case", c->name, *size, c->title);
+        return 0;
+    }
+    if (count == 2 && strcmp(words[1], "check") == 0) {
+        check_all();
+        return 0;
+    }
+    for (const struct one *c = cases; count == 5 && c < cases + CASES; c++)
+        if (strcmp(words[1], c->name) == 0) {
+            set_up(c, (unsigned)strtoul(words[2], NULL, 10));
+            call *chosen = (strcmp(words[3], "plain") == 0 ? plain : proved)[c->export];
+            for (unsigned long times = strtoul(words[4], NULL, 10); times > 0; times--)
+                chosen();
+            return 0;
+        }
+    fprintf(stderr, "usage: bench list, bench check, or bench CASE SIZE proved|plain TIMES\n");
+    return 2;
+}

@@ -1,0 +1,294 @@
+/* Plain C that does what the exports do, as it is written where nothing is proved: it believes its inputs. It refuses nothing and tests no index,
+   paints and converts dot by dot, and applies and joins word by word. Only the check of a font tests, since testing is what it is for.
+   It is here to be measured against, and is no part of the library. */
+#include "plain.h"
+
+#include <stdbool.h>
+
+#define ALWAYS static inline __attribute__((always_inline))
+
+/* Word i of a font: of its words, or of its bytes, the high byte first. */
+typedef unsigned reader(const void *font, size_t i);
+
+ALWAYS unsigned by_words(const void *font, size_t i)
+{
+    return ((const uint16_t *)font)[i];
+}
+
+ALWAYS unsigned by_bytes(const void *font, size_t i)
+{
+    const uint8_t *bytes = font;
+    return bytes[2 * i] << 8 | bytes[2 * i + 1];
+}
+
+typedef struct {
+    bool kerned;
+    unsigned min, max, codes, ascent, height, raster;
+    int fbbox;
+    size_t bitmap, pointers, widths;
+} face;
+
+ALWAYS face face_of(reader *word, const void *font)
+{
+    face f;
+    f.kerned = word(font, 0) & 0x1000;
+    size_t body = f.kerned ? 8 : 4;
+    f.min = word(font, 1);
+    f.max = word(font, 2);
+    f.codes = f.max - f.min + 1;
+    f.fbbox = f.kerned ? (int16_t)word(font, 4) : 0;
+    f.ascent = word(font, body + 1);
+    f.height = f.ascent + word(font, body + 2);
+    f.raster = word(font, body + 4);
+    f.bitmap = body + 5;
+    f.pointers = f.bitmap + (size_t)f.raster * f.height;
+    f.widths = f.pointers + f.codes + 2;
+    return f;
+}
+
+uint32_t plain_check(const uint8_t *font, size_t font_bytes)
+{
+    if (font_bytes % 2)
+        return 14;
+    size_t words = font_bytes / 2;
+    if (words < 9)
+        return 1;
+    unsigned format = by_bytes(font, 0);
+    if ((format & 0xCFFF) != 0x8000)
+        return 2;
+    if (format & 0x1000 && words < 13)
+        return 1;
+    face f = face_of(by_bytes, font);
+    if (f.min > f.max || f.max > 255)
+        return 3;
+    if (f.height < 1 || f.height > 256 || f.raster < 1 || f.raster > 4096 || by_bytes(font, f.bitmap - 2) || f.fbbox < -255 || f.fbbox > 255)
+        return 4;
+    size_t end = f.kerned ? f.widths + f.codes + 1 : f.widths;
+    if (by_bytes(font, f.bitmap - 5) != f.raster * f.height + f.codes + 7 || words != end)
+        return 5;
+    unsigned before = 0;
+    for (size_t i = f.pointers; i < f.widths; i++) {
+        unsigned pointer = by_bytes(font, i);
+        if (pointer < before)
+            return 6;
+        before = pointer;
+    }
+    if (before > 16 * f.raster)
+        return 6;
+    if (f.kerned ? by_bytes(font, end - 1) == 0xFFFF : by_bytes(font, end - 1) == by_bytes(font, end - 2))
+        return 7;
+    return 0;
+}
+
+/* What a font shows for a code: the columns of its picture, where they go from the pen, and how far the pen moves. */
+typedef struct {
+    unsigned first, columns, advance, substitute;
+    int left;
+} glyph;
+
+ALWAYS glyph glyph_of(reader *word, const void *font, const face *f, unsigned code)
+{
+    unsigned k = code - f->min;
+    bool absent = code < f->min || code > f->max
+        || (f->kerned ? word(font, f->widths + k) == 0xFFFF : word(font, f->pointers + k) == word(font, f->pointers + k + 1));
+    if (absent)
+        k = f->codes;
+    glyph g;
+    g.first = word(font, f->pointers + k);
+    g.columns = word(font, f->pointers + k + 1) - g.first;
+    g.substitute = absent;
+    if (f->kerned) {
+        unsigned entry = word(font, f->widths + k);
+        g.left = f->fbbox + (int)(entry >> 8);
+        g.advance = entry & 0xFF;
+    } else {
+        g.left = 0;
+        g.advance = g.columns;
+    }
+    return g;
+}
+
+pailradish_reply plain_measure(const uint8_t *font, size_t font_bytes, int32_t x, const uint8_t *label, size_t label_bytes)
+{
+    (void)font_bytes;
+    face f = face_of(by_bytes, font);
+    pailradish_reply reply = {0, x, 0};
+    for (size_t i = 0; i < label_bytes; i++) {
+        glyph g = glyph_of(by_bytes, font, &f, label[i]);
+        reply.pen += (int32_t)g.advance;
+        reply.substitutes += g.substitute;
+    }
+    return reply;
+}
+
+/* Draws a label dot by dot: on a panel, where there is no keep, or on the keep and the flip of a sheet. */
+ALWAYS pailradish_reply draw(const uint16_t *font, uint32_t row_words, uint32_t rows, uint32_t width, uint32_t strip, int32_t x, int32_t y,
+                             uint32_t mode, const uint8_t *label, size_t label_bytes, uint16_t *keep, uint16_t *flip)
+{
+    face f = face_of(by_words, font);
+    pailradish_reply reply = {0, x, 0};
+    int top = y - (int)f.ascent;
+    int first_row = top < 0 ? -top : 0;
+    int end_row = top + (int)f.height > (int)rows ? (int)rows - top : (int)f.height;
+    for (size_t i = 0; i < label_bytes; i++) {
+        glyph g = glyph_of(by_words, font, &f, label[i]);
+        int left = reply.pen + g.left;
+        int first_column = left < 0 ? -left : 0;
+        int end_column = left + (int)g.columns > (int)width ? (int)width - left : (int)g.columns;
+        for (int row = first_row; row < end_row; row++) {
+            const uint16_t *from = font + f.bitmap + (size_t)row * f.raster;
+            size_t to = (size_t)(top + row) * row_words;
+            for (int column = first_column; column < end_column; column++) {
+                unsigned at = g.first + (unsigned)column;
+                if (!(from[at / 16] >> (15 - at % 16) & 1))
+                    continue;
+                unsigned dot = strip * width + (unsigned)(left + column);
+                uint16_t bit = 0x8000 >> dot % 16;
+                if (mode == PAILRADISH_PAINT)
+                    flip[to + dot / 16] |= bit;
+                else if (mode == PAILRADISH_ERASE)
+                    flip[to + dot / 16] &= ~bit;
+                else
+                    flip[to + dot / 16] ^= bit;
+                if (keep && mode != PAILRADISH_INVERT)
+                    keep[to + dot / 16] &= ~bit;
+            }
+        }
+        reply.pen += (int32_t)g.advance;
+        reply.substitutes += g.substitute;
+    }
+    return reply;
+}
+
+pailradish_reply plain_paint(const uint16_t *font, size_t font_words, uint32_t row_words, uint32_t rows, uint32_t width,
+                             uint32_t strip, int32_t x, int32_t y, uint32_t mode, const uint8_t *label, size_t label_bytes,
+                             uint16_t *panel, size_t panel_words)
+{
+    (void)font_words, (void)panel_words;
+    return draw(font, row_words, rows, width, strip, x, y, mode, label, label_bytes, NULL, panel);
+}
+
+pailradish_reply plain_gather(const uint16_t *font, size_t font_words, uint32_t row_words, uint32_t rows, uint32_t width,
+                              uint32_t strip, int32_t x, int32_t y, uint32_t mode, const uint8_t *label, size_t label_bytes,
+                              uint16_t *keep, size_t keep_words, uint16_t *flip, size_t flip_words)
+{
+    (void)font_words, (void)keep_words, (void)flip_words;
+    return draw(font, row_words, rows, width, strip, x, y, mode, label, label_bytes, keep, flip);
+}
+
+uint32_t plain_fresh(uint32_t row_words, uint32_t rows, uint32_t width, uint16_t *keep, size_t keep_words, uint16_t *flip,
+                     size_t flip_words)
+{
+    (void)width, (void)keep_words, (void)flip_words;
+    for (size_t i = 0; i < (size_t)row_words * rows; i++) {
+        keep[i] = 0xFFFF;
+        flip[i] = 0;
+    }
+    return 0;
+}
+
+uint32_t plain_join(uint32_t row_words, uint32_t rows, uint32_t width, uint16_t *keep, size_t keep_words, uint16_t *flip,
+                    size_t flip_words, const uint16_t *then_keep, size_t then_keep_words, const uint16_t *then_flip,
+                    size_t then_flip_words)
+{
+    (void)width, (void)keep_words, (void)flip_words, (void)then_keep_words, (void)then_flip_words;
+    for (size_t i = 0; i < (size_t)row_words * rows; i++) {
+        keep[i] &= then_keep[i];
+        flip[i] = (flip[i] & then_keep[i]) ^ then_flip[i];
+    }
+    return 0;
+}
+
+uint32_t plain_apply(uint32_t row_words, uint32_t rows, uint32_t width, const uint16_t *keep, size_t keep_words,
+                     const uint16_t *flip, size_t flip_words, uint16_t *panel, size_t panel_words)
+{
+    (void)width, (void)keep_words, (void)flip_words, (void)panel_words;
+    for (size_t i = 0; i < (size_t)row_words * rows; i++)
+        panel[i] = (panel[i] & keep[i]) ^ flip[i];
+    return 0;
+}
+
+/* One dot of a character of a CU file. */
+ALWAYS unsigned cu_dot(const uint16_t *character, unsigned row_words, unsigned row, unsigned column)
+{
+    return character[2 + row * row_words + column / 16] >> (15 - column % 16) & 1;
+}
+
+pailradish_conversion plain_convert(const uint16_t *cu, size_t cu_words, uint16_t *out, size_t out_words)
+{
+    (void)out_words;
+    unsigned rows = cu[0], row_words = cu[1], width = 16 * row_words;
+    size_t step = 2 + (size_t)rows * row_words;
+    const uint16_t *places[256] = {0};
+    unsigned lefts[256], columns[256], spacings[256];
+    unsigned min = 255, max = 0, most = 0, least = 255;
+    unsigned left = width, right = 0, top = rows, bottom = 0;
+
+    /* Each character, and its box. */
+    for (size_t at = 2; at < cu_words; at += step) {
+        const uint16_t *character = cu + at;
+        unsigned code = character[0], spacing = character[1], from = width, upto = 0;
+        for (unsigned i = 0; i < rows; i++)
+            for (unsigned j = 0; j < width; j++)
+                if (cu_dot(character, row_words, i, j)) {
+                    if (j < from) from = j;
+                    if (j + 1 > upto) upto = j + 1;
+                    if (i < top) top = i;
+                    if (i > bottom) bottom = i;
+                }
+        places[code] = character;
+        lefts[code] = from;
+        columns[code] = upto > from ? upto - from : 0;
+        spacings[code] = spacing;
+        if (from < left) left = from;
+        if (upto > right) right = upto;
+        if (code < min) min = code;
+        if (code > max) max = code;
+        if (spacing > most) most = spacing;
+        if (spacing < least) least = spacing;
+    }
+
+    /* The origin: the leftmost dot of the lowest row of code 65 that has one. */
+    unsigned base = rows, origin = width;
+    while (origin == width) {
+        base--;
+        for (origin = 0; origin < width && !cu_dot(places[65], row_words, base, origin); origin++)
+            ;
+    }
+
+    /* The header. */
+    unsigned codes = max - min + 1, height = bottom - top + 1, total = right - left;
+    for (unsigned c = min; c <= max; c++)
+        if (places[c])
+            total += columns[c];
+    unsigned raster = (total + 15) / 16;
+    uint16_t header[13] = {least == most ? 0xB000 : 0x9000, min, max, most, left - origin, base - bottom, right - left, height,
+                           raster * height + codes + 7, base - top + 1, bottom - base, 0, raster};
+    for (unsigned i = 0; i < 13; i++)
+        out[i] = header[i];
+
+    /* The bitmap, the pointers and the width entries. */
+    uint16_t *bitmap = out + 13, *pointers = bitmap + (size_t)raster * height, *widths = pointers + codes + 2;
+    for (size_t i = 0; i < (size_t)raster * height; i++)
+        bitmap[i] = 0;
+    unsigned at = 0;
+    for (unsigned c = min; c <= max; c++) {
+        pointers[c - min] = at;
+        widths[c - min] = 0xFFFF;
+        if (!places[c])
+            continue;
+        widths[c - min] = (columns[c] ? lefts[c] - left : origin - left) << 8 | spacings[c];
+        for (unsigned i = 0; i < height; i++)
+            for (unsigned j = 0; j < columns[c]; j++)
+                if (cu_dot(places[c], row_words, top + i, lefts[c] + j))
+                    bitmap[i * raster + (at + j) / 16] |= 0x8000 >> (at + j) % 16;
+        at += columns[c];
+    }
+    pointers[codes] = at;
+    for (unsigned j = 0; j < right - left; j++, at++)
+        for (unsigned i = 0; i < height; i++)
+            bitmap[i * raster + at / 16] |= 0x8000 >> at % 16;
+    pointers[codes + 1] = at;
+    widths[codes] = most;
+    return (pailradish_conversion){0, 13 + (size_t)raster * height + 2 * codes + 3};
+}
