@@ -212,6 +212,7 @@ static const struct one {
 } cases[] = {
     {"check-c1", "check: the font of C1, 27 words", CHECK, set_small_font, {27}},
     {"check-64k", "check: a kerned font of 256 codes, 32,768 words", CHECK, set_large_font, {32768}},
+    {"check-label", "check: the font of the labels below, 95 codes, 710 words", CHECK, set_label, {1}},
     {"measure-8", "measure: 8 bytes", MEASURE, set_label, {8}},
     {"measure-64", "measure: 64 bytes", MEASURE, set_label, {64}},
     {"measure-64k", "measure: 8 bytes, the font of 32,768 words", MEASURE, set_large_label, {8}},
