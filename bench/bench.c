@@ -183,6 +183,8 @@ static void set_label(unsigned n) { label_font(), shape(128, 16, 64), label(n), 
 static void set_erased(unsigned n) { set_label(n), at(31, 0, 11, 1); }
 static void set_inverted(unsigned n) { set_label(n), at(31, 0, 11, 2); }
 static void set_left_edge(unsigned n) { set_label(n), at(31, -37, 11, 0); }
+static void set_left(unsigned n) { set_label(n), at(31, -1000, 11, 0); }
+static void set_right(unsigned n) { set_label(n), at(31, 1000, 11, 0); }
 static void set_top_edge(unsigned n) { set_label(n), at(31, 0, 2, 0); }
 static void set_large_label(unsigned n) { large_font(), shape(128, 16, 64), label(n), at(31, 0, 11, 0); }
 static void set_picture_rows(unsigned n) { kerned_font(32, 95, 42, n, n, 7), shape(128, 256, 64), label(8), at(31, 0, n, 0); }
@@ -219,6 +221,8 @@ static const struct one {
     {"paint-8", "paint: 8 bytes, all inside the strip", PAINT, set_label, {8}},
     {"paint-64", "paint: 64 bytes, 8 of them inside", PAINT, set_label, {64}},
     {"paint-left", "paint: 16 bytes, clipped left and right", PAINT, set_left_edge, {16}},
+    {"paint-outside-left", "paint: 8 bytes, all left of the strip", PAINT, set_left, {8}},
+    {"paint-outside-right", "paint: 8 bytes, all right of the strip", PAINT, set_right, {8}},
     {"paint-top", "paint: 8 bytes, 7 of 12 rows above the panel", PAINT, set_top_edge, {8}},
     {"gather-paint", "gather: 8 bytes, Paint", GATHER, set_label, {8}},
     {"gather-erase", "gather: 8 bytes, Erase", GATHER, set_erased, {8}},
@@ -373,7 +377,8 @@ static void check_all(void)
     for (const struct one *c = cases; c < cases + CASES; c++)
         for (const unsigned *size = c->sizes; *size; size++) {
             set_up(c, *size);
-            compare(c->name, *size, c->export, true, c->export >= PAINT);
+            bool outside = c->set == set_left || c->set == set_right;
+            compare(c->name, *size, c->export, true, c->export >= PAINT && !outside);
         }
     set_up(cases, 27);
     random_calls(500);
