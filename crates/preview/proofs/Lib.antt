@@ -1,0 +1,5 @@
+pub mod Putting
+pub mod Digits
+pub mod Signs
+pub mod Pictures
+pub mod Outcomes

@@ -1,0 +1,66 @@
+-- `preview::number::decimal` reads digit by digit. The invariant: what the whole text spells is what the rest of it makes of the number so far.
+use Prim.Native.Nat.{ℕ, _+_, _-_, _≤_}
+use mathlib.Core.Path.{_≡_, refl, sym, ap, _∙_}
+use lib.ListN.{length, drop}
+use denote.Ref.{now}
+use native.Mathlib.Omega.{arith}
+use Rattle.preview.specs.Number.{digitsAfter}
+use Rattle.preview.proofs.Digits.{some-digits, no-digits, digit-more, digits-done}
+use Rattle.preview.proofs.number.decimal.Statement.{statement}
+use Rattle.preview.proofs.number.decimal.Tie as tie
+
+abbrev Inv-loop : tie.InvT-loop
+Inv-loop text n₀ i₀ n i = (i ≤ length text) × (digitsAfter 0 text ≡ digitsAfter n (drop i text)) × (n ≤ 4294967296)
+
+abbrev μ-loop : tie.MeasureT-loop
+μ-loop text n₀ i₀ n i = length text - i
+
+returns : tie.Need-returns Inv-loop μ-loop
+returns c = (no-digits _ (omega arith), omega arith)
+
+loop-holds : tie.Need-loop-holds Inv-loop μ-loop
+loop-holds c = (omega arith, refl, omega arith)
+
+shared-slice-read-with-digit : tie.Need-shared-slice-read-with-digit Inv-loop μ-loop
+shared-slice-read-with-digit c = omega arith
+
+with-digit-requires : tie.Need-with-digit-requires Inv-loop μ-loop
+with-digit-requires c κs = omega arith
+
+add-i : tie.Need-add-i Inv-loop μ-loop
+add-i c = omega arith
+
+loop-less : tie.Need-loop-less Inv-loop μ-loop
+loop-less c = omega arith
+
+loop-again : tie.Need-loop-again Inv-loop μ-loop
+loop-again c =
+    let b = c .before .before .before in
+    let text = now (b .before .before .before .args .text) in (
+      omega arith,
+      b .loop .inv .1 ∙ digit-more text (b .loop .n) (b .loop .i) (omega arith) ∙ ap (λ (k : ℕ). digitsAfter k (drop (b .loop .i + 1) text)) (sym (c .with-digit .ensures .0)),
+      c .with-digit .ensures .1,
+    )
+
+returns-2 : tie.Need-returns-2 Inv-loop μ-loop
+returns-2 c =
+    let b = c .before in
+    let text = now (b .before .before .before .args .text) in (
+      sym (some-digits text (omega arith) ∙ b .loop .inv .1 ∙ digits-done text (b .loop .n) (b .loop .i) (omega arith)),
+      b .loop .inv .2,
+    )
+
+pub decimal-spec : {M : Type 1} → statement M
+decimal-spec =
+    tie.close
+    (tie.spec
+    Inv-loop
+    μ-loop
+    returns
+    loop-holds
+    shared-slice-read-with-digit
+    with-digit-requires
+    add-i
+    loop-less
+    loop-again
+    returns-2)

@@ -1,0 +1,33 @@
+-- The picture of a panel, as a PBM file of the kind P4.
+use Prim.Native.Nat.{ℕ, _+_, _*_, _/_, _%_}
+use mathlib.Core.Bool.{cond}
+use mathlib.Core.List.{List, [], _∷_, _++_}
+use lib.Dec.{ltb}
+use lib.ListN.{length, take, drop}
+use Rattle.words.specs.Word.{bytesOf}
+use Rattle.paint.specs.declared.Shape.{Shape}
+use Rattle.paint.specs.Panel.{panelWords, badPanel}
+
+-- the digit of a number that counts its units of so many, in ASCII
+unfoldable pub digit : ℕ → ℕ → ℕ
+digit n unit = 48 + n / unit % 10
+
+-- a digit that stands only where the number has one of that unit
+unfoldable pub leading : ℕ → ℕ → List ℕ
+leading n unit = cond (ltb n unit) [] (digit n unit ∷ [])
+
+-- a number below 10,000 in decimal, with no zeros before it
+unfoldable pub decimal : ℕ → List ℕ
+decimal n = leading n 1000 ++ (leading n 100 ++ (leading n 10 ++ (digit n 1 ∷ [])))
+
+-- "P4", a newline, the columns, a space, the rows, a newline
+unfoldable pub headerOf : Shape → List ℕ
+headerOf s = 80 ∷ 52 ∷ 10 ∷ (decimal (16 * s .rowwords) ++ (32 ∷ (decimal (s .rows) ++ (10 ∷ []))))
+
+-- "a P4 row of 16R dots is exactly the row's words, high byte first"; a shape that 8 refuses has no picture
+unfoldable pub pictureOf : Shape → List ℕ → List ℕ
+pictureOf s panel = cond (badPanel s (length panel ∷ [])) [] (headerOf s ++ bytesOf (take (panelWords s) panel))
+
+-- a lent slice with bytes put into it from a place on
+unfoldable pub putAt : ℕ → List ℕ → List ℕ → List ℕ
+putAt at bytes lent = take at lent ++ (bytes ++ drop (at + length bytes) lent)

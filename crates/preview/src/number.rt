@@ -1,0 +1,88 @@
+// Reading decimal numbers.
+ghost use mathlib.Core.Path.{_≡_};
+ghost use Prim.Native.Nat.{_≤_};
+ghost use Rattle.preview.specs.Number.{withDigit, numberOf};
+
+// What stands for a text that is no number of a u32.
+pub const NONE: u64 = 4_294_967_296;
+
+// What a text is as a number with a sign.
+pub enum Signed {
+    Number(i32),
+    Other,
+}
+
+// The bytes from a place up to another; none where they are in the other order or past the end.
+pub fn between(text: &[u8], from: usize, upto: usize) -> &[u8] {
+    if text.len() < upto {
+        return &text[..0];
+    }
+    if upto < from {
+        return &text[..0];
+    }
+    &text[from..upto]
+}
+
+// A number with one more digit, or NONE.
+fn with_digit(n: u64, b: u8) -> u64
+    requires { ⌜ n ≤ 4294967296 ⌝ }
+    ensures { λ r. ⌜ r ≡ withDigit n b ⌝ }
+    ensures small { λ r. ⌜ r ≤ 4294967296 ⌝ }
+{
+    if b < b'0' {
+        return NONE;
+    }
+    if b'9' < b {
+        return NONE;
+    }
+    let longer = n * 10 + (b - b'0') as u64;
+    if longer < NONE {
+        return longer;
+    }
+    NONE
+}
+
+// The number that a text spells in decimal digits, or NONE.
+pub fn decimal(text: &[u8]) -> u64
+    ensures { λ r. ⌜ r ≡ numberOf (now (text .entry)) ⌝ }
+    ensures small { λ r. ⌜ r ≤ 4294967296 ⌝ }
+{
+    if text.len() == 0 {
+        return NONE;
+    }
+    let mut n = 0;
+    let mut i = 0;
+    while i < text.len() {
+        n = with_digit(n, text[i]);
+        i += 1;
+    }
+    n
+}
+
+fn positive(n: u64) -> Signed {
+    if 2_147_483_647 < n {
+        return Signed::Other;
+    }
+    Signed::Number(n as i32)
+}
+
+fn negative(n: u64) -> Signed {
+    if 2_147_483_648 < n {
+        return Signed::Other;
+    }
+    if n == 2_147_483_648 {
+        return Signed::Number(-2_147_483_648);
+    }
+    Signed::Number(-(n as i32))
+}
+
+// The number that a text spells in decimal digits, with a `-` before them or not.
+pub fn signed_decimal(text: &[u8]) -> Signed {
+    if text.len() == 0 {
+        return Signed::Other;
+    }
+    if text[0] == b'-' {
+        return negative(decimal(&text[1..]));
+    }
+    positive(decimal(text))
+}
