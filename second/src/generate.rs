@@ -8,12 +8,14 @@ pub mod font_files;
 mod font_scenes;
 pub mod label_calls;
 mod label_scenes;
+mod preview_inputs;
 pub mod random;
 mod scene;
 pub mod sheet_scenes;
 
 use std::io::{self, Write};
 
+use preview_inputs::PreviewInput;
 use random::Random;
 use scene::Scene;
 
@@ -82,4 +84,14 @@ pub fn write_list(kind: Kind, seed: u64, count: usize, list: &mut impl Write) ->
 pub fn program_inputs(seed: u64, count: usize) -> impl Iterator<Item = Vec<u8>> {
     let mut random = Random::from_seed(seed);
     (0..count).map(move |number| cu_scenes::program_input(&mut random, number))
+}
+
+/// Inputs of the preview program, with the given fonts and with random ones.
+pub fn preview_inputs(
+    seed: u64,
+    count: usize,
+    fonts: &[Vec<u8>],
+) -> impl Iterator<Item = PreviewInput> + '_ {
+    let mut random = Random::from_seed(seed);
+    (0..count).map(move |number| preview_inputs::preview_input(&mut random, number, fonts))
 }

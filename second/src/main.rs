@@ -9,6 +9,8 @@ mod generate;
 mod label;
 mod list;
 mod panel;
+mod preview;
+mod previews;
 mod programs;
 mod refusal;
 mod replay;
@@ -16,7 +18,8 @@ mod sheet;
 #[cfg(test)]
 mod tests;
 
-use std::io::{self, BufWriter, Write};
+use std::fs;
+use std::io::{self, BufWriter, Read, Write};
 use std::path::Path;
 use std::process::ExitCode;
 
@@ -26,6 +29,8 @@ use replay::Stopped;
 const USAGE: &str = "usage: second replay < LIST > ANSWERS
        second generate fonts|labels|sheets|cu|conversions|desk SEED COUNT > LIST
        second programs SEED COUNT DIRECTORY
+       second preview FONT R H W < LABELS > PICTURE
+       second previews SEED COUNT DIRECTORY FONT..
        second coverage < ANSWERS";
 
 fn main() -> ExitCode {
@@ -35,6 +40,10 @@ fn main() -> ExitCode {
         ["replay"] => answer_list(),
         ["generate", kind, seed, count] => write_list(kind, seed, count),
         ["programs", seed, count, directory] => write_programs(seed, count, directory),
+        ["preview", words @ ..] => write_preview(words),
+        ["previews", seed, count, directory, fonts @ ..] => {
+            write_previews(seed, count, directory, fonts)
+        }
         ["coverage"] => count_answers(),
         _ => Err(USAGE.to_string()),
     };
@@ -69,6 +78,34 @@ fn write_programs(seed: &str, count: &str, directory: &str) -> Result<(), String
     let seed = seed.parse().map_err(|_| USAGE)?;
     let count = count.parse().map_err(|_| USAGE)?;
     programs::write_files(seed, count, Path::new(directory)).map_err(|error| error.to_string())
+}
+
+fn write_preview(words: &[&str]) -> Result<(), String> {
+    let Some((font, shape)) = preview::arguments(words) else {
+        eprint!("{}", preview::USAGE);
+        return Ok(());
+    };
+    let font = fs::read(font).ok();
+    let mut lines = Vec::new();
+    io::stdin()
+        .read_to_end(&mut lines)
+        .map_err(|error| error.to_string())?;
+    let written = preview::preview(font.as_deref(), shape, &lines);
+    eprint!("{}", written.errors);
+    let mut output = io::stdout().lock();
+    output
+        .write_all(&written.picture)
+        .and_then(|()| output.flush())
+        .map_err(|error| error.to_string())
+}
+
+fn write_previews(seed: &str, count: &str, directory: &str, fonts: &[&str]) -> Result<(), String> {
+    let seed = seed.parse().map_err(|_| USAGE)?;
+    let count = count.parse().map_err(|_| USAGE)?;
+    let fonts: io::Result<Vec<Vec<u8>>> = fonts.iter().map(fs::read).collect();
+    fonts
+        .and_then(|fonts| previews::write_files(seed, count, Path::new(directory), &fonts))
+        .map_err(|error| error.to_string())
 }
 
 fn count_answers() -> Result<(), String> {

@@ -2,6 +2,7 @@ mod conversion;
 mod generated;
 mod lists;
 mod paper;
+mod preview;
 mod sheets;
 
 use crate::replay::{replay, Stopped};

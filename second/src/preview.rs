@@ -1,0 +1,170 @@
+//! The preview program: label lines painted on a panel, and a picture of the panel.
+
+use crate::bits::{bit, words_from_bytes};
+use crate::font;
+use crate::label::{paint, Call};
+use crate::panel::Shape;
+use crate::refusal::Refused;
+
+pub const USAGE: &str = "usage: preview FONT R H W\n";
+
+const MOST_FONT_BYTES: usize = 65_536;
+const MOST_LINE_BYTES: usize = 1_000;
+const PANEL_WORDS: usize = 32_768;
+
+/// What comes on standard output and on standard error.
+#[derive(Debug, Clone, Default, PartialEq, Eq)]
+pub struct Written {
+    pub picture: Vec<u8>,
+    pub errors: String,
+}
+
+#[derive(Debug, Clone, PartialEq, Eq)]
+enum Line {
+    PassedOver,
+    NoLabel,
+    Label {
+        strip: i64,
+        x: i64,
+        y: i64,
+        mode: i64,
+        text: Vec<u8>,
+    },
+}
+
+/// The font's name and the shape, of the arguments behind the program's name.
+pub fn arguments<'a>(words: &[&'a str]) -> Option<(&'a str, Shape)> {
+    let [font, words_per_row, rows, strip_width] = words else {
+        return None;
+    };
+    let shape = Shape {
+        words_per_row: unsigned(words_per_row.as_bytes())?,
+        rows: unsigned(rows.as_bytes())?,
+        strip_width: unsigned(strip_width.as_bytes())?,
+    };
+    Some((font, shape))
+}
+
+/// The font is none where its file could not be read.
+pub fn preview(font_bytes: Option<&[u8]>, shape: Shape, lines: &[u8]) -> Written {
+    let mut panel = vec![0; PANEL_WORDS];
+    let tested = font_words(font_bytes).and_then(|words| match shape.test(&[&panel]) {
+        Ok(()) => Ok(words),
+        Err(Refused(number)) => Err(format!("panel: refused {number}\n")),
+    });
+    match tested {
+        Err(errors) => Written {
+            errors,
+            ..Written::default()
+        },
+        Ok(words) => {
+            let errors = paint_lines(&words, shape, lines, &mut panel);
+            let picture = picture(shape, &panel);
+            Written { picture, errors }
+        }
+    }
+}
+
+fn font_words(bytes: Option<&[u8]>) -> Result<Vec<u16>, String> {
+    let bytes = bytes.ok_or("font: cannot be read\n")?;
+    if bytes.len() > MOST_FONT_BYTES {
+        return Err("font: too long\n".to_string());
+    }
+    let words = words_from_bytes(bytes).ok_or("font: refused 14\n")?;
+    match font::read(&words) {
+        Ok(_) => Ok(words),
+        Err(Refused(number)) => Err(format!("font: refused {number}\n")),
+    }
+}
+
+fn paint_lines(font: &[u16], shape: Shape, lines: &[u8], panel: &mut [u16]) -> String {
+    let mut errors = String::new();
+    for (before, line) in lines.split(|&byte| byte == b'\n').enumerate() {
+        let reply = match read_line(line) {
+            Line::PassedOver => None,
+            Line::NoLabel => Some("not a label".to_string()),
+            Line::Label {
+                strip,
+                x,
+                y,
+                mode,
+                text,
+            } => {
+                let call = Call {
+                    shape,
+                    strip,
+                    x,
+                    y,
+                    mode,
+                    label: text,
+                };
+                let refused = paint(font, &call, panel).err();
+                refused.map(|Refused(number)| format!("refused {number}"))
+            }
+        };
+        if let Some(reply) = reply {
+            errors.push_str(&format!("line {}: {reply}\n", before + 1));
+        }
+    }
+    errors
+}
+
+fn read_line(line: &[u8]) -> Line {
+    if line.is_empty() || line[0] == b'#' {
+        return Line::PassedOver;
+    }
+    if line.len() > MOST_LINE_BYTES {
+        return Line::NoLabel;
+    }
+    label_line(line).unwrap_or(Line::NoLabel)
+}
+
+/// Four numbers and the text, with a space between any two of the five. The text and the
+/// space before it may be missing.
+fn label_line(line: &[u8]) -> Option<Line> {
+    let mut fields = line.splitn(5, |&byte| byte == b' ');
+    Some(Line::Label {
+        strip: unsigned(fields.next()?)?,
+        x: signed(fields.next()?)?,
+        y: signed(fields.next()?)?,
+        mode: unsigned(fields.next()?)?,
+        text: fields.next().unwrap_or_default().to_vec(),
+    })
+}
+
+/// A number of 32 bits, with as many zeros before it as there may be.
+fn unsigned(field: &[u8]) -> Option<i64> {
+    let text = std::str::from_utf8(field).ok()?;
+    let all_digits = !text.is_empty() && text.bytes().all(|byte| byte.is_ascii_digit());
+    if !all_digits {
+        return None;
+    }
+    let digits = text.trim_start_matches('0');
+    let value = if digits.is_empty() {
+        0
+    } else {
+        digits.parse::<u32>().ok()?
+    };
+    Some(i64::from(value))
+}
+
+fn signed(field: &[u8]) -> Option<i64> {
+    let value = match field.strip_prefix(b"-") {
+        Some(digits) => -unsigned(digits)?,
+        None => unsigned(field)?,
+    };
+    i32::try_from(value).ok().map(i64::from)
+}
+
+/// A PBM file of the kind P4, dot by dot.
+fn picture(shape: Shape, panel: &[u16]) -> Vec<u8> {
+    let columns = 16 * shape.words_per_row;
+    let mut file = format!("P4\n{columns} {}\n", shape.rows).into_bytes();
+    for row in 0..shape.rows {
+        for first in (0..columns).step_by(8) {
+            let dots = (first..first + 8).map(|column| bit(panel, shape.bit_number((row, column))));
+            file.push(dots.fold(0, |byte, dot| 2 * byte + u8::from(dot)));
+        }
+    }
+    file
+}
