@@ -1,8 +1,11 @@
--- Reading a decimal number: "any u32 value is taken; a number that does not fit its type is not a label".
+-- Reading a decimal number, by docs/DECISIONS.md, "The preview program": "Numbers may have zeros before them."
 use Prim.Native.Nat.{ℕ, _+_, _-_, _*_}
 use mathlib.Core.Bool.{cond}
 use mathlib.Core.List.{List, [], _∷_}
-use lib.Dec.{ltb}
+use lib.Dec.{ltb, eqb}
+use lib.IntN.{pos, _-ℤ_}
+use Rattle.preview.specs.declared.number.Signed.{Signed}
+use Rattle.preview.specs.declared.number.Signed.the-variants.{Number, Other}
 
 -- a number with one more digit, 48 to 57; 4,294,967,296 stands for no number of a u32, and stays whatever follows
 unfoldable pub withDigit : ℕ → ℕ → ℕ
@@ -20,3 +23,15 @@ digitsAfter n (b ∷ bytes) = digitsAfter (withDigit n b) bytes
 unfoldable pub numberOf : List ℕ → ℕ
 numberOf [] = 4294967296
 numberOf (b ∷ bytes) = digitsAfter 0 (b ∷ bytes)
+
+-- "Any value of a `u32` or an `i32` reaches `paint::paint`"
+unfoldable pub positiveOf : ℕ → Signed
+positiveOf n = cond (ltb 2147483647 n) Other (Number (pos n))
+
+unfoldable pub negativeOf : ℕ → Signed
+negativeOf n = cond (ltb 2147483648 n) Other (Number (pos 0 -ℤ pos n))
+
+-- "X and Y may have a `-`", which is 45, "and -0 is 0"
+unfoldable pub signedOf : List ℕ → Signed
+signedOf [] = Other
+signedOf (b ∷ bytes) = cond (eqb b 45) (negativeOf (numberOf bytes)) (positiveOf (numberOf (b ∷ bytes)))

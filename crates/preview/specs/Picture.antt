@@ -1,4 +1,4 @@
--- The picture of a panel, as a PBM file of the kind P4.
+-- The picture of a panel, by docs/DECISIONS.md, "The preview program": "a PBM picture of the kind P4".
 use Prim.Native.Nat.{ℕ, _+_, _*_, _/_, _%_}
 use mathlib.Core.Bool.{cond}
 use mathlib.Core.List.{List, [], _∷_, _++_}
@@ -24,7 +24,7 @@ decimal n = leading n 1000 ++ (leading n 100 ++ (leading n 10 ++ (digit n 1 ∷ 
 unfoldable pub headerOf : Shape → List ℕ
 headerOf s = 80 ∷ 52 ∷ 10 ∷ (decimal (16 * s .rowwords) ++ (32 ∷ (decimal (s .rows) ++ (10 ∷ []))))
 
--- "a P4 row of 16R dots is exactly the row's words, high byte first"; a shape that 8 refuses has no picture
+-- "A row of such a picture is the row's words, high byte first, with 1 for a lit dot"; a shape that 8 refuses has no picture
 unfoldable pub pictureOf : Shape → List ℕ → List ℕ
 pictureOf s panel = cond (badPanel s (length panel ∷ [])) [] (headerOf s ++ bytesOf (take (panelWords s) panel))
 

@@ -1,5 +1,5 @@
 // Reading: the lines on standard input, and a file.
-use crate::number::between;
+use crate::number::part;
 use libc::STDIN_FILENO;
 ghost use Prim.Native.Nat.{_≤_};
 ghost use lib.ListN.{length};
@@ -65,12 +65,12 @@ pub fn put(line: &mut [u8; LINE], at: usize, b: u8) {
 
 // The first bytes of a buffer. A callee that takes the array needs no proof of its length.
 pub fn first_of(bytes: &[u8; BYTES], count: usize) -> &[u8] {
-    between(bytes, 0, count)
+    part(bytes, 0, count)
 }
 
 // The bytes of the line that are there.
 pub fn line_so_far(line: &[u8; LINE], lines: Lines) -> &[u8] {
-    between(line, 0, lines.length)
+    part(line, 0, lines.length)
 }
 
 // Reads once from standard input; no bytes where it has ended.

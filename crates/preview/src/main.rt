@@ -14,7 +14,9 @@ use number::NONE;
 use paint::Reply;
 use paint::Shape;
 use picture::PRINTED;
+ghost use mathlib.Core.Path.{_≡_};
 ghost use Prim.Native.Nat.{_≤_};
+ghost use Rattle.preview.specs.Line.{afterLine};
 
 // The words of the longest font file.
 const FONT: usize = 32_768;
@@ -50,8 +52,17 @@ fn say_refused(number: u32) {
     say(b"\n");
 }
 
+fn say_reply(number: u64, reply: Reply) {
+    if let Reply::Refused(refusal) = reply {
+        say_line(number);
+        say_refused(refusal);
+    }
+}
+
 // Paints the label of a line, and says where it is refused.
-fn paint_line(line: &[u8], number: u64, font: &[u16], s: Shape, panel: &mut [u16]) {
+fn paint_line(line: &[u8], number: u64, font: &[u16], s: Shape, panel: &mut [u16])
+    ensures { λ r. ⌜ now (panel .exit) ≡ afterLine (now (font .entry)) s (now (line .entry)) (now (panel .entry)) ⌝ }
+{
     let read = label::line_of(line);
     match read {
         Line::Passed => {}
@@ -60,7 +71,7 @@ fn paint_line(line: &[u8], number: u64, font: &[u16], s: Shape, panel: &mut [u16
             say(b": not a label\n");
         }
         Line::Label(label) => {
-            let text = number::between(line, label.text, line.len());
+            let text = label::text_of(line);
             let reply = paint::paint(
                 font,
                 s,
@@ -71,10 +82,7 @@ fn paint_line(line: &[u8], number: u64, font: &[u16], s: Shape, panel: &mut [u16
                 text,
                 panel,
             );
-            if let Reply::Refused(refusal) = reply {
-                say_line(number);
-                say_refused(refusal);
-            }
+            say_reply(number, reply);
         }
     }
 }

@@ -1,7 +1,8 @@
 // Reading decimal numbers.
 ghost use mathlib.Core.Path.{_≡_};
 ghost use Prim.Native.Nat.{_≤_};
-ghost use Rattle.preview.specs.Number.{withDigit, numberOf};
+ghost use lib.ListN.{take, drop};
+ghost use Rattle.preview.specs.Number.{withDigit, numberOf, positiveOf, negativeOf, signedOf};
 
 // What stands for a text that is no number of a u32.
 pub const NONE: u64 = 4_294_967_296;
@@ -12,15 +13,18 @@ pub enum Signed {
     Other,
 }
 
-// The bytes from a place up to another; none where they are in the other order or past the end.
-pub fn between(text: &[u8], from: usize, upto: usize) -> &[u8] {
-    if text.len() < upto {
+// The bytes from a place on, so many of them; fewer where the text ends before.
+pub fn part(text: &[u8], from: usize, count: usize) -> &[u8]
+    ensures { λ r. ⌜ now r ≡ take count (drop from (now (text .entry))) ⌝ }
+{
+    let length = text.len();
+    if length <= from {
         return &text[..0];
     }
-    if upto < from {
-        return &text[..0];
+    if length - from <= count {
+        return &text[from..];
     }
-    &text[from..upto]
+    &text[from..from + count]
 }
 
 // A number with one more digit, or NONE.
@@ -59,14 +63,18 @@ pub fn decimal(text: &[u8]) -> u64
     n
 }
 
-fn positive(n: u64) -> Signed {
+fn positive(n: u64) -> Signed
+    ensures { λ r. ⌜ r ≡ positiveOf n ⌝ }
+{
     if 2_147_483_647 < n {
         return Signed::Other;
     }
     Signed::Number(n as i32)
 }
 
-fn negative(n: u64) -> Signed {
+fn negative(n: u64) -> Signed
+    ensures { λ r. ⌜ r ≡ negativeOf n ⌝ }
+{
     if 2_147_483_648 < n {
         return Signed::Other;
     }
@@ -77,7 +85,9 @@ fn negative(n: u64) -> Signed {
 }
 
 // The number that a text spells in decimal digits, with a `-` before them or not.
-pub fn signed_decimal(text: &[u8]) -> Signed {
+pub fn signed_decimal(text: &[u8]) -> Signed
+    ensures { λ r. ⌜ r ≡ signedOf (now (text .entry)) ⌝ }
+{
     if text.len() == 0 {
         return Signed::Other;
     }

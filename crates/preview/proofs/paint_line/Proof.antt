@@ -1,0 +1,90 @@
+-- `preview::paint_line` paints the label of a line, and nothing for any other.
+use denote.Ref.{now}
+use mir.Syntax.{w32}
+use mir.Facts.{toZ-ofZ}
+use Rattle.preview.proofs.Lines.{passed-line, other-line, label-line}
+use borrow.Author.Needs.{needs}
+use Rattle.preview.proofs.paint_line.Statement.{statement}
+use Rattle.preview.proofs.paint_line.Tie as tie
+
+line-of-requires : tie.Need-line-of-requires
+line-of-requires c κs = search needs
+
+enum-told : tie.Need-enum-told
+enum-told c = search needs
+
+enum-told-2 : tie.Need-enum-told-2
+enum-told-2 c = search needs
+
+say-line-requires : tie.Need-say-line-requires
+say-line-requires c κs = search needs
+
+slice-aggregate-say : tie.Need-slice-aggregate-say
+slice-aggregate-say c = search needs
+
+say-requires : tie.Need-say-requires
+say-requires c κs = search needs
+
+enum-known-read : tie.Need-enum-known-read
+enum-known-read c = search needs
+
+text-of-requires : tie.Need-text-of-requires
+text-of-requires c κs = search needs
+
+paint-requires : tie.Need-paint-requires
+paint-requires c κs = search needs
+
+say-reply-requires : tie.Need-say-reply-requires
+say-reply-requires c κs = search needs
+
+returns : tie.Need-returns
+returns c =
+    let read = c .before .before in
+    let a = read .before .before .before .before .args in
+    passed-line (now (a .font)) (now (a .line)) (now (a .panel)) (a .s) (read .line-of .result) (read .line-of .ensures) (c .enum-told .given .1)
+
+returns-2 : tie.Need-returns-2
+returns-2 c =
+    let told = c .before .before .before in
+    let read = told .before .before in
+    let a = read .before .before .before .before .args in
+    other-line (now (a .font)) (now (a .line)) (now (a .panel)) (a .s) (read .line-of .result) (read .line-of .ensures) (told .enum-told2 .given .1)
+
+same-length : tie.Need-same-length
+same-length c = search needs
+
+returns-3 : tie.Need-returns-3
+returns-3 c =
+    let paint = c .before .before .before in
+    let down = paint .before in
+    let left = down .before in
+    let text = left .before .before in
+    let known = text .before .before in
+    let read = known .before .before in
+    let a = read .before .before .before .before .args in
+    let l = known .read .given .0 .0 in
+    label-line (now (a .font)) (now (a .line)) (now (a .panel)) (a .s) (read .line-of .result) (read .line-of .ensures) l _ _ (now (text .text-of .result)) _
+    (known .read .given .1)
+    (text .text-of .ensures)
+    (toZ-ofZ {w = w32} {z = l .x} (record { sfits = left .struct-told .given .1 .0 .1 }))
+    (toZ-ofZ {w = w32} {z = l .y} (record { sfits = down .struct-told2 .given .1 .1 .0 .1 }))
+    (paint .paint .ensures .1)
+
+pub paint-line-spec : {M : Type 1} → statement M
+paint-line-spec =
+    tie.close
+    (tie.spec
+    line-of-requires
+    enum-told
+    enum-told-2
+    say-line-requires
+    slice-aggregate-say
+    say-requires
+    enum-known-read
+    text-of-requires
+    paint-requires
+    say-reply-requires
+    returns
+    returns-2
+    same-length
+    returns-3)
