@@ -3,6 +3,7 @@ use convert::Conversion;
 use libc::STDERR_FILENO;
 use libc::STDIN_FILENO;
 use libc::STDOUT_FILENO;
+use reading::BYTES;
 ghost use mathlib.Core.Path.{_≡_};
 ghost use Prim.Native.Nat.{_≤_};
 ghost use mathlib.Core.List.{_++_};
@@ -11,9 +12,6 @@ ghost use Rattle.io.specs.Counts.{Counts};
 ghost use Rattle.words.specs.Word.{wordsOf};
 ghost use Rattle.convert.specs.Conversion.{conversionOf, outputAfter, bytesNumber, programOutput};
 ghost use Rattle.cu2ks.specs.Program.{answerOf};
-
-// The most bytes that are taken, and one more: a longer input is refused without being read to its end.
-const INPUT: usize = 65_537;
 
 // The words of the most bytes.
 const CU: usize = 32_768;
@@ -27,12 +25,6 @@ const PRINTED: usize = 65_536;
 // What the program answers: the number of its refusal or 0, and how many bytes it prints.
 struct Answer {
     number: u32,
-    bytes: usize,
-}
-
-// What was read of the input, up to its end or past what is taken.
-struct Input {
-    failed: bool,
     bytes: usize,
 }
 
@@ -84,47 +76,6 @@ fn program(bytes: &[u8], printed: &mut [u8; PRINTED]) -> Answer
     }
 }
 
-// Reads once, behind the bytes that are there. No more bytes are there afterwards where the input has ended.
-fn read_on(space: &mut [u8], at: usize) -> Input
-    requires { ⌜ at ≤ length (now space) ⌝ }
-    ensures { λ r. ⌜ (at ≤ r .bytes) × (r .bytes ≤ length (now (space .entry))) ⌝ }
-{
-    let rest = &mut space[at..];
-    let got = libc::read(STDIN_FILENO, rest);
-    if got < 0 {
-        return Input {
-            failed: true,
-            bytes: at,
-        };
-    }
-    Input {
-        failed: false,
-        bytes: at + io::count(got, rest),
-    }
-}
-
-// Reads until the input ends, there is more of it than is taken, or a read fails.
-fn read(space: &mut [u8; INPUT]) -> Input
-    ensures { λ r. ⌜ Counts (r .bytes) (now (space .exit)) ⌝ }
-{
-    let mut input = Input {
-        failed: false,
-        bytes: 0,
-    };
-    let mut at = 0;
-    while at < INPUT {
-        input = read_on(space, at);
-        if input.failed {
-            return input;
-        }
-        if input.bytes == at {
-            return input;
-        }
-        at = input.bytes;
-    }
-    input
-}
-
 fn refuse(number: u32) {
     io::write_all(STDERR_FILENO, b"refused ");
     io::print_decimal(STDERR_FILENO, number as u64);
@@ -146,8 +97,8 @@ fn run(bytes: &[u8]) {
 }
 
 fn main() {
-    let mut space = [0u8; INPUT];
-    let input = read(&mut space);
+    let mut space = [0u8; BYTES];
+    let input = reading::read(STDIN_FILENO, &mut space);
     if input.failed {
         io::write_all(STDERR_FILENO, b"read failed\n");
         return;

@@ -1,11 +1,8 @@
 // Reading: the lines on standard input, and a file.
 use crate::number::part;
 use libc::STDIN_FILENO;
-ghost use Prim.Native.Nat.{_≤_};
-ghost use lib.ListN.{length};
-
-// The most bytes of a font, and one more: a longer file is not read to its end.
-pub const BYTES: usize = 65_537;
+use reading::BYTES;
+use reading::Input;
 
 // The most bytes of a line, and one more: of a longer line no more are kept.
 pub const LINE: usize = 1_001;
@@ -14,12 +11,6 @@ pub const LINE: usize = 1_001;
 pub struct Lines {
     pub number: u64,
     pub length: usize,
-}
-
-// What was read of an input, into how many bytes of a buffer.
-pub struct Input {
-    pub failed: bool,
-    pub bytes: usize,
 }
 
 impl Lines {
@@ -82,45 +73,6 @@ pub fn read_some(bytes: &mut [u8; BYTES]) -> Input {
     }
 }
 
-// Reads once, behind the bytes that are there. No more bytes are there afterwards where the file has ended.
-fn read_on(fd: i32, space: &mut [u8], at: usize) -> Input
-    requires { ⌜ at ≤ length (now space) ⌝ }
-    ensures { λ r. ⌜ (at ≤ r .bytes) × (r .bytes ≤ length (now (space .entry))) ⌝ }
-{
-    let rest = &mut space[at..];
-    let got = libc::read(fd, rest);
-    if got < 0 {
-        return Input {
-            failed: true,
-            bytes: at,
-        };
-    }
-    Input {
-        failed: false,
-        bytes: at + io::count(got, rest),
-    }
-}
-
-// Reads until the file ends, there is more of it than is taken, or a read fails.
-fn read(fd: i32, space: &mut [u8; BYTES]) -> Input {
-    let mut input = Input {
-        failed: false,
-        bytes: 0,
-    };
-    let mut at = 0;
-    while at < BYTES {
-        input = read_on(fd, space, at);
-        if input.failed {
-            return input;
-        }
-        if input.bytes == at {
-            return input;
-        }
-        at = input.bytes;
-    }
-    input
-}
-
 pub fn read_file(path: &[u8], space: &mut [u8; BYTES]) -> Input {
     let fd = os::open_read(path);
     if fd < 0 {
@@ -129,7 +81,7 @@ pub fn read_file(path: &[u8], space: &mut [u8; BYTES]) -> Input {
             bytes: 0,
         };
     }
-    let input = read(fd, space);
+    let input = reading::read(fd, space);
     libc::close(fd);
     input
 }

@@ -4,7 +4,6 @@ mod label;
 mod number;
 mod picture;
 
-use input::BYTES;
 use input::LINE;
 use input::Lines;
 use label::Line;
@@ -14,6 +13,7 @@ use number::NONE;
 use paint::Reply;
 use paint::Shape;
 use picture::PRINTED;
+use reading::BYTES;
 ghost use mathlib.Core.Path.{_≡_};
 ghost use Prim.Native.Nat.{_≤_};
 ghost use Rattle.preview.specs.Line.{afterLine};

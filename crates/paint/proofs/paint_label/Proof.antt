@@ -15,7 +15,7 @@ use Rattle.paint.specs.declared.Pen.{Pen}
 use Rattle.fonts.specs.declared.Glyph.{Glyph}
 use Rattle.words.proofs.Altering.{AllWords, altered-length}
 use Rattle.paint.proofs.Labels.{painted, label-more, label-done}
-use Rattle.paint.proofs.Along.{along-more, along-done}
+use Rattle.paint.proofs.Along.{along-turn, along-done}
 use Rattle.paint.proofs.paint_label.Statement.{statement}
 use Rattle.paint.proofs.paint_label.Tie as tie
 
@@ -109,8 +109,7 @@ loop-again c =
       b .loop .inv .3
           ∙ label-more face (x .s) (x .strip) (x .y) (x .mode) n (now (x .label)) i pen (b .loop .panel) less (omega arith)
           ∙ ap₂ (λ (p : Pen) (q : List ℕ). painted face (x .s) (x .strip) (x .y) (x .mode) n p (drop (i + 1) (now (x .label))) q) (sym moved) (sym marks),
-      b .loop .inv .4 ∙ along-more glyph (now (x .label)) i pen less
-          ∙ ap (λ (p : Pen). penAlong glyph p (drop (i + 1) (now (x .label)))) (sym moved),
+      b .loop .inv .4 ∙ along-turn glyph (now (x .label)) i pen (c .after .result) less moved,
       omega arith,
       omega arith,
     )

@@ -7,10 +7,9 @@ use mathlib.Core.Path.{_≡_, refl, sym, ap, _∙_}
 use borrow.Author.Needs.{needs}
 use denote.Ref.{now}
 use lib.ListN.{length, drop}
-use Rattle.paint.specs.declared.Pen.{Pen}
 use Rattle.fonts.specs.Face.{glyphFrom}
 use Rattle.paint.specs.Pen.{penAfter, penAlong}
-use Rattle.paint.proofs.Along.{along-more, along-done}
+use Rattle.paint.proofs.Along.{along-turn, along-done}
 use Rattle.paint.proofs.pen_along.Statement.{statement}
 use Rattle.paint.proofs.pen_along.Tie as tie
 
@@ -52,8 +51,8 @@ loop-again c =
     let g = glyphFrom (a .h) (now (a .pointers)) (now (a .widths)) in
     let shown = c .before .of .ensures ∙ ap g (c .before .before .code .ensures) in (
       omega arith,
-      b .loop .inv .1 ∙ along-more g (now (a .label)) (b .loop .i) (b .loop .pen) (omega arith)
-          ∙ ap (λ (p : Pen). penAlong g p (drop (b .loop .i + 1) (now (a .label)))) (sym (c .after .ensures .0 ∙ ap (penAfter (b .loop .pen)) shown)),
+      b .loop .inv .1
+          ∙ along-turn g (now (a .label)) (b .loop .i) (b .loop .pen) (c .after .result) (omega arith) (c .after .ensures .0 ∙ ap (penAfter (b .loop .pen)) shown),
       omega arith,
       omega arith,
     )

@@ -1,17 +1,17 @@
--- `cu2ks::read` is safe and ends: each turn finds a byte or more, or is the last.
+-- `reading::read` is safe and ends: each turn finds a byte or more, or is the last.
 use Prim.Native.Nat.{_-_, _≤_}
 use native.Mathlib.Omega.{arith}
 use lib.ListN.{length}
 use borrow.Author.Needs.{needs}
 use Rattle.io.proofs.Counting.{counts}
-use Rattle.cu2ks.proofs.read.Statement.{statement}
-use Rattle.cu2ks.proofs.read.Tie as tie
+use Rattle.reading.proofs.read.Statement.{statement}
+use Rattle.reading.proofs.read.Tie as tie
 
 abbrev Inv-loop : tie.InvT-loop
-Inv-loop space₀ input₀ at₀ space input at = (at ≤ 65537) × (input .bytes ≤ length space)
+Inv-loop fd space₀ input₀ at₀ space input at = (at ≤ 65537) × (input .bytes ≤ length space)
 
 abbrev μ-loop : tie.MeasureT-loop
-μ-loop space₀ input₀ at₀ space input at = 65537 - at
+μ-loop fd space₀ input₀ at₀ space input at = 65537 - at
 
 loop-holds : tie.Need-loop-holds Inv-loop μ-loop
 loop-holds c = search needs
