@@ -12,7 +12,7 @@ ghost use Rattle.paint.specs.Label.{callOf, replyOf, paintAfter};
 ghost use Rattle.sheets.specs.Sheet.{sheetOf, freshNumber, freshAfter, joinNumber, joinAfter, applyNumber, applyAfter, gatherReply, gatherAfter};
 ghost use Rattle.desk.specs.Desk.{deskNumber, deskMeasure, shapeOf, answerOf, writtenOf};
 
-// What measuring, painting and gathering answer: a number, and beside a refusal's zeros.
+// What measuring, painting and gathering answer. Beside the number of a refusal stand zeros.
 #[repr(C)]
 pub struct Answer {
     pub number: u32,

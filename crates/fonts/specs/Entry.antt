@@ -17,6 +17,7 @@ entryAt pointers widths k = record { left = word pointers k; right = word pointe
 unfoldable pub present : Header → Entry → Bool
 present h e = cond (kerned h) (not (eqb (e .width) 0xFFFF)) (not (eqb (e .left) (e .right)))
 
+-- "the picture's width"; 0 where the pointers fall, which 6 refuses
 unfoldable pub columnsOf : Entry → ℕ
 columnsOf e = e .right - e .left
 

@@ -51,6 +51,11 @@ fallsFrom before (p ∷ pointers) = ltb p before || fallsFrom p pointers
 unfoldable pub badPointers : Header → Bool → Entry → Bool
 badPointers h falls dummy = falls || ltb (16 * h .raster) (dummy .right)
 
+-- 7: "no dummy: kerned entry FFFF; plain, no columns", which is how a code doesn't exist
+unfoldable pub noDummy : Header → Entry → Bool
+noDummy h dummy = not (present h dummy)
+
+-- 1 to 5, which the header and the number of words decide
 unfoldable pub headerNumber : Header → ℕ → ℕ
 headerNumber h count =
     firstOf
@@ -62,10 +67,7 @@ headerNumber h count =
     ∷ (badLength h count, 5)
     ∷ [])
 
--- 7: "no dummy: kerned entry FFFF; plain, no columns", which is how a code doesn't exist
-unfoldable pub noDummy : Header → Entry → Bool
-noDummy h dummy = not (present h dummy)
-
+-- 6 and 7, by whether the pointers fall and by the dummy's entry
 unfoldable pub tableNumber : Header → Bool → Entry → ℕ
 tableNumber h falls dummy = firstOf ((badPointers h falls dummy, 6) ∷ (noDummy h dummy, 7) ∷ [])
 
