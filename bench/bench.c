@@ -16,10 +16,9 @@ enum { FONT = 65536, PANEL = 32768, CU = 65536, OUT = 65536 };
 /* Everything that a call is handed, and its reply: all of it is compared. What calls write stands first. */
 static struct state {
     uint16_t panel[PANEL], keep[PANEL], flip[PANEL], out[OUT], then_keep[PANEL], then_flip[PANEL], cu[CU], font[FONT];
-    uint8_t font_bytes[2 * FONT], label[64];
-    size_t font_words, label_bytes, cu_words;
-    uint32_t row_words, rows, width, strip, mode;
-    int32_t x, y;
+    uint8_t font_bytes[2 * FONT], text[PAILRADISH_LABEL_BYTES];
+    size_t font_words, text_bytes, cu_words;
+    pailradish_call call;
     size_t panel_words;
     pailradish_reply reply;
     pailradish_conversion conversion;
@@ -60,7 +59,8 @@ static const uint16_t c1_font[27] = {
     0x9000, 0x0041, 0x0044, 0x0004, 0xFFFF, 0xFFFF, 0x0004, 0x0003, 0x000E, 0x0002, 0x0001, 0x0000, 0x0001, 0x4F00,
     0xBF00, 0x1F00, 0x0000, 0x0003, 0x0004, 0x0004, 0x0004, 0x0008, 0x0104, 0x0000, 0xFFFF, 0x0102, 0x0004};
 static const uint16_t c1_cu[17] = {
-    0x0003, 0x0001, 0x0041, 0x0004, 0x2000, 0x5000, 0x0000, 0x0042, 0x0000, 0x0000, 0x8000, 0x8000, 0x0044, 0x0002, 0x0000, 0x0000, 0x0000};
+    0x0003, 0x0001, 0x0041, 0x0004, 0x2000, 0x5000, 0x0000, 0x0042, 0x0000, 0x0000, 0x8000, 0x8000, 0x0044, 0x0002,
+    0x0000, 0x0000, 0x0000};
 
 static void small_font(void)
 {
@@ -69,12 +69,13 @@ static void small_font(void)
     spell_font();
 }
 
-/* A kerned font of so many codes, each with a picture of so many columns, dots at random, moved right by one dot and set two columns further. */
+/* A kerned font of so many codes, each with a picture of so many columns, dots at random, moved right by one dot and set two columns
+   further. */
 static void kerned_font(unsigned min, unsigned codes, unsigned raster, unsigned height, unsigned ascent, unsigned columns)
 {
     unsigned bitmap = raster * height;
-    const uint16_t header[13] = {0x9000, min, min + codes - 1, columns + 1, 0, ascent - height, columns, height, bitmap + codes + 7, ascent,
-                                 height - ascent, 0, raster};
+    const uint16_t header[13] = {0x9000, min, min + codes - 1, columns + 1, 0, ascent - height, columns, height, bitmap + codes + 7,
+                                 ascent, height - ascent, 0, raster};
     memcpy(s.font, header, sizeof header);
     uint16_t *pointers = s.font + 13 + bitmap, *widths = pointers + codes + 2;
     fill(s.font + 13, bitmap);
@@ -98,27 +99,22 @@ static void label_font(void)
     kerned_font(32, 95, 42, 12, 9, 7);
 }
 
-static void label(size_t bytes)
+static void text(size_t bytes)
 {
     for (size_t i = 0; i < bytes; i++)
-        s.label[i] = (uint8_t)(33 + i);
-    s.label_bytes = bytes;
+        s.text[i] = (uint8_t)(33 + i);
+    s.text_bytes = bytes;
 }
 
 static void shape(uint32_t row_words, uint32_t rows, uint32_t width)
 {
-    s.row_words = row_words;
-    s.rows = rows;
-    s.width = width;
+    s.call.shape = (pailradish_shape){row_words, rows, width};
     s.panel_words = (size_t)row_words * rows;
 }
 
 static void at(uint32_t strip, int32_t x, int32_t y, uint32_t mode)
 {
-    s.strip = strip;
-    s.x = x;
-    s.y = y;
-    s.mode = mode;
+    s.call.label = (pailradish_label){strip, x, y, mode};
 }
 
 /* A CU file of so many characters from code 65 on; dots at random, or one in the last row and column of each. */
@@ -142,54 +138,59 @@ static void cu_file(unsigned characters, unsigned rows, unsigned row_words, bool
 
 /* A call of each export, and of its plain C. */
 
-#define LABEL s.row_words, s.rows, s.width, s.strip, s.x, s.y, s.mode, s.label, s.label_bytes
+#define TEXT s.text, s.text_bytes
 #define SHEET s.keep, s.panel_words, s.flip, s.panel_words
+
+/* One by one: between them the struct has bytes that mean nothing. */
+static void set_conversion(pailradish_conversion done)
+{
+    s.conversion.number = done.number;
+    s.conversion.words = done.words;
+}
 
 #define BOTH(who) \
     static void who##_call_check(void) { s.reply.number = who##_check(s.font_bytes, 2 * s.font_words); } \
-    static void who##_call_measure(void) { s.reply = who##_measure(s.font_bytes, 2 * s.font_words, s.x, s.label, s.label_bytes); } \
-    static void who##_call_paint(void) { s.reply = who##_paint(s.font, s.font_words, LABEL, s.panel, s.panel_words); } \
-    static void who##_call_gather(void) { s.reply = who##_gather(s.font, s.font_words, LABEL, SHEET); } \
-    static void who##_call_fresh(void) { s.reply.number = who##_fresh(s.row_words, s.rows, s.width, SHEET); } \
+    static void who##_call_measure(void) { s.reply = who##_measure(s.font_bytes, 2 * s.font_words, s.call.label.x, TEXT); } \
+    static void who##_call_words(void) { set_conversion(who##_words(s.font_bytes, 2 * s.font_words, s.out, OUT)); } \
+    static void who##_call_paint(void) { s.reply = who##_paint(s.font, s.font_words, s.call, TEXT, s.panel, s.panel_words); } \
+    static void who##_call_gather(void) { s.reply = who##_gather(s.font, s.font_words, s.call, TEXT, SHEET); } \
+    static void who##_call_fresh(void) { s.reply.number = who##_fresh(s.call.shape, SHEET); } \
     static void who##_call_join(void) \
     { \
-        s.reply.number = who##_join(s.row_words, s.rows, s.width, SHEET, s.then_keep, s.panel_words, s.then_flip, s.panel_words); \
+        s.reply.number = who##_join(s.call.shape, SHEET, s.then_keep, s.panel_words, s.then_flip, s.panel_words); \
     } \
-    static void who##_call_apply(void) { s.reply.number = who##_apply(s.row_words, s.rows, s.width, SHEET, s.panel, s.panel_words); } \
-    static void who##_call_convert(void) \
-    { \
-        pailradish_conversion c = who##_convert(s.cu, s.cu_words, s.out, OUT); \
-        s.conversion.number = c.number; /* one by one: between them the struct has bytes that mean nothing */ \
-        s.conversion.words = c.words; \
-    }
+    static void who##_call_apply(void) { s.reply.number = who##_apply(s.call.shape, SHEET, s.panel, s.panel_words); } \
+    static void who##_call_convert(void) { set_conversion(who##_convert(s.cu, s.cu_words, s.out, OUT)); }
 
 BOTH(pailradish)
 BOTH(plain)
 
 typedef void call(void);
-static call *const proved[] = {pailradish_call_check, pailradish_call_measure, pailradish_call_paint, pailradish_call_gather,
-                               pailradish_call_fresh, pailradish_call_join, pailradish_call_apply, pailradish_call_convert};
-static call *const plain[] = {plain_call_check, plain_call_measure, plain_call_paint, plain_call_gather,
+static call *const proved[] = {pailradish_call_check, pailradish_call_measure, pailradish_call_words, pailradish_call_paint,
+                               pailradish_call_gather, pailradish_call_fresh, pailradish_call_join, pailradish_call_apply,
+                               pailradish_call_convert};
+static call *const plain[] = {plain_call_check, plain_call_measure, plain_call_words, plain_call_paint, plain_call_gather,
                               plain_call_fresh, plain_call_join, plain_call_apply, plain_call_convert};
-enum { CHECK, MEASURE, PAINT, GATHER, FRESH, JOIN, APPLY, CONVERT };
+enum { CHECK, MEASURE, WORDS, PAINT, GATHER, FRESH, JOIN, APPLY, CONVERT };
 
 /* The cases. */
 
 static void set_small_font(unsigned n) { (void)n, small_font(); }
 static void set_large_font(unsigned n) { (void)n, large_font(); }
-static void set_codes(unsigned n) { kerned_font(0, n, 130, 12, 9, 8), label(8), memset(s.label, 0, 8); }
+static void set_codes(unsigned n) { kerned_font(0, n, 130, 12, 9, 8), text(8), memset(s.text, 0, 8); }
+static void set_words(unsigned n) { s.font_words = n, fill(s.font, n), spell_font(); }
 static void set_bitmap_rows(unsigned n) { kerned_font(32, 95, 42, n, n, 7); }
-static void set_label(unsigned n) { label_font(), shape(128, 16, 64), label(n), at(31, 0, 11, 0); }
+static void set_label(unsigned n) { label_font(), shape(128, 16, 64), text(n), at(31, 0, 11, 0); }
 static void set_erased(unsigned n) { set_label(n), at(31, 0, 11, 1); }
 static void set_inverted(unsigned n) { set_label(n), at(31, 0, 11, 2); }
 static void set_left_edge(unsigned n) { set_label(n), at(31, -37, 11, 0); }
 static void set_left(unsigned n) { set_label(n), at(31, -1000, 11, 0); }
 static void set_right(unsigned n) { set_label(n), at(31, 1000, 11, 0); }
 static void set_top_edge(unsigned n) { set_label(n), at(31, 0, 2, 0); }
-static void set_large_label(unsigned n) { large_font(), shape(128, 16, 64), label(n), at(31, 0, 11, 0); }
-static void set_picture_rows(unsigned n) { kerned_font(32, 95, 42, n, n, 7), shape(128, 256, 64), label(8), at(31, 0, n, 0); }
-static void set_panel_rows(unsigned n) { label_font(), shape(128, n, 64), label(8), at(31, 0, 11, 0); }
-static void set_strip_columns(unsigned n) { label_font(), shape(128, 16, n), label(8), at(31, 0, 11, 0); }
+static void set_large_label(unsigned n) { large_font(), shape(128, 16, 64), text(n), at(31, 0, 11, 0); }
+static void set_picture_rows(unsigned n) { kerned_font(32, 95, 42, n, n, 7), shape(128, 256, 64), text(8), at(31, 0, n, 0); }
+static void set_panel_rows(unsigned n) { label_font(), shape(128, n, 64), text(8), at(31, 0, 11, 0); }
+static void set_strip_columns(unsigned n) { label_font(), shape(128, 16, n), text(8), at(31, 0, 11, 0); }
 static void set_panel(unsigned n)
 {
     n == 24 ? shape(8, 3, 4) : shape(128, n / 128, 64);
@@ -218,6 +219,7 @@ static const struct one {
     {"measure-8", "measure: 8 bytes", MEASURE, set_label, {8}},
     {"measure-64", "measure: 64 bytes", MEASURE, set_label, {64}},
     {"measure-64k", "measure: 8 bytes, the font of 32,768 words", MEASURE, set_large_label, {8}},
+    {"words-64k", "words: 65,536 bytes", WORDS, set_words, {32768}},
     {"paint-8", "paint: 8 bytes, all inside the strip", PAINT, set_label, {8}},
     {"paint-64", "paint: 64 bytes, 8 of them inside", PAINT, set_label, {64}},
     {"paint-left", "paint: 16 bytes, clipped left and right", PAINT, set_left_edge, {16}},
@@ -241,6 +243,7 @@ static const struct one {
     {"check-rows", "check, by rows of the bitmap", CHECK, set_bitmap_rows, {1, 4, 16, 64, 256}},
     {"measure-bytes", "measure, by bytes of the label", MEASURE, set_label, {1, 4, 8, 16, 64}},
     {"measure-codes", "measure 8 bytes, by codes of the font", MEASURE, set_codes, {1, 4, 16, 64, 256}},
+    {"words-words", "words, by words written", WORDS, set_words, {128, 512, 2048, 8192, 32768}},
     {"paint-bytes", "paint, by bytes of the label", PAINT, set_label, {1, 4, 8, 16, 64}},
     {"paint-picture", "paint 8 bytes, by rows of the picture", PAINT, set_picture_rows, {1, 4, 16, 64, 256}},
     {"paint-panel", "paint 8 bytes, by rows of the panel", PAINT, set_panel_rows, {12, 16, 64, 256}},
@@ -271,7 +274,8 @@ static void set_up(const struct one *c, unsigned size)
 
 static unsigned long compared;
 
-/* Both answer what is set up now alike, and change the same words to the same. A case must be accepted, and must alter words where its export does. */
+/* Both answer what is set up now alike, and change the same words to the same. A case must be accepted, and must alter words where its
+   export does. */
 static void compare(const char *what, unsigned size, int export, bool accepted, bool altering)
 {
     static struct state before;
@@ -344,20 +348,23 @@ static void random_calls(unsigned count)
     for (unsigned i = 0; i < count; i++) {
         any_font();
         any_panel();
-        label(within(0, 64));
-        for (size_t k = 0; k < s.label_bytes; k++)
-            s.label[k] = (uint8_t)any();
+        text(within(0, PAILRADISH_LABEL_BYTES));
+        for (size_t k = 0; k < s.text_bytes; k++)
+            s.text[k] = (uint8_t)any();
         at(within(0, 31), (int32_t)within(0, 120) - 60, (int32_t)within(0, 80) - 20, within(0, 2));
         for (unsigned k = 0; k < sizeof label_calls / sizeof *label_calls; k++) {
             s.reply.number = 99;
             compare("random call", i, label_calls[k], true, false);
         }
         s.conversion.number = 99;
+        compare("random words", i, WORDS, true, false);
+        s.conversion.number = 99;
         any_cu();
         compare("random convert", i, CONVERT, true, false);
         /* A font that may be refused: the check alone says why. */
         for (unsigned k = 0; k < 8; k++) {
-            static const uint16_t edges[] = {0, 1, 254, 255, 256, 257, 4096, 4097, 0x8000, 0x9000, 0xA000, 0xC000, 0xFF00, 0xFF01, 0xFFFF};
+            static const uint16_t edges[] = {0,      1,      254,    255,    256,    257,    4096,  4097,
+                                             0x8000, 0x9000, 0xA000, 0xC000, 0xFF00, 0xFF01, 0xFFFF};
             uint16_t *word = s.font + within(0, (uint32_t)(k % 2 ? s.font_words : 13) - 1), was = *word;
             *word = k < 6 ? edges[within(0, sizeof edges / sizeof *edges - 1)] : (uint16_t)any();
             spell_font();
@@ -378,7 +385,7 @@ static void check_all(void)
         for (const unsigned *size = c->sizes; *size; size++) {
             set_up(c, *size);
             bool outside = c->set == set_left || c->set == set_right;
-            compare(c->name, *size, c->export, true, c->export >= PAINT && !outside);
+            compare(c->name, *size, c->export, true, c->export >= WORDS && !outside);
         }
     set_up(cases, 27);
     random_calls(500);

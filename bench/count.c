@@ -3,13 +3,13 @@
        gcc -shared -fPIC -O2 count.c -o count.so
        qemu-x86_64 -plugin ./count.so PROGRAM
 
-   qemu translates a program block by block. For each instruction of a block we ask it to add one to a sum whenever that instruction runs, which
-   costs no call. (Adding a block's count of instructions when the block begins would be quicker, but is too much by one where qemu ended a block
-   because its next instruction crosses from one page into another: it then depends on where the linker put the code.) Of a repeated string
-   instruction each turn counts as one.
+   qemu translates a program block by block. For each instruction of a block we ask it to add one to a sum whenever that instruction runs,
+   which costs no call. (Adding a block's count of instructions when the block begins would be quicker, but is too much by one where qemu
+   ended a block because its next instruction crosses from one page into another: it then depends on where the linker put the code.) Of a
+   repeated string instruction each turn counts as one.
 
-   qemu's header for plugins is in no package of Debian 12, so what we need of it is declared here. It fits version 1 of the interface and was tried
-   with qemu 7.2, which Debian 12 has; a qemu that no longer takes version 1 says so and starts no program. */
+   qemu's header for plugins is in no package of Debian 12, so what we need of it is declared here. It fits version 1 of the interface and
+   was tried with qemu 7.2, which Debian 12 has; a qemu that no longer takes version 1 says so and starts no program. */
 #include <stddef.h>
 #include <stdint.h>
 #include <stdio.h>

@@ -1,6 +1,6 @@
-/* Plain C that does what the exports do, as it is written where nothing is proved: it believes its inputs. It refuses nothing and tests no index,
-   paints and converts dot by dot, and applies and joins word by word. Only the check of a font tests, since testing is what it is for.
-   It is here to be measured against, and is no part of the library. */
+/* Plain C that does what the exports do, as it is written where nothing is proved: it believes its inputs. It refuses nothing and tests no
+   index, paints and converts dot by dot, and applies and joins word by word. Only the check of a font tests, since testing is what it is
+   for. It is here to be measured against, and is no part of the library. */
 #include "plain.h"
 
 #include <stdbool.h>
@@ -61,7 +61,8 @@ uint32_t plain_check(const uint8_t *font, size_t font_bytes)
     face f = face_of(by_bytes, font);
     if (f.min > f.max || f.max > 255)
         return 3;
-    if (f.height < 1 || f.height > 256 || f.raster < 1 || f.raster > 4096 || by_bytes(font, f.bitmap - 2) || f.fbbox < -255 || f.fbbox > 255)
+    if (f.height < 1 || f.height > 256 || f.raster < 1 || f.raster > 4096 || by_bytes(font, f.bitmap - 2) || f.fbbox < -255
+        || f.fbbox > 255)
         return 4;
     size_t end = f.kerned ? f.widths + f.codes + 1 : f.widths;
     if (by_bytes(font, f.bitmap - 5) != f.raster * f.height + f.codes + 7 || words != end)
@@ -108,41 +109,51 @@ ALWAYS glyph glyph_of(reader *word, const void *font, const face *f, unsigned co
     return g;
 }
 
-pailradish_reply plain_measure(const uint8_t *font, size_t font_bytes, int32_t x, const uint8_t *label, size_t label_bytes)
+pailradish_reply plain_measure(const uint8_t *font, size_t font_bytes, int32_t x, const uint8_t *text, size_t text_bytes)
 {
     (void)font_bytes;
     face f = face_of(by_bytes, font);
     pailradish_reply reply = {0, x, 0};
-    for (size_t i = 0; i < label_bytes; i++) {
-        glyph g = glyph_of(by_bytes, font, &f, label[i]);
+    for (size_t i = 0; i < text_bytes; i++) {
+        glyph g = glyph_of(by_bytes, font, &f, text[i]);
         reply.pen += (int32_t)g.advance;
         reply.substitutes += g.substitute;
     }
     return reply;
 }
 
+pailradish_conversion plain_words(const uint8_t *bytes, size_t byte_count, uint16_t *words, size_t word_count)
+{
+    (void)word_count;
+    for (size_t i = 0; i < byte_count / 2; i++)
+        words[i] = (uint16_t)by_bytes(bytes, i);
+    return (pailradish_conversion){0, byte_count / 2};
+}
+
 /* Draws a label dot by dot: on a panel, where there is no keep, or on the keep and the flip of a sheet. */
-ALWAYS pailradish_reply draw(const uint16_t *font, uint32_t row_words, uint32_t rows, uint32_t width, uint32_t strip, int32_t x, int32_t y,
-                             uint32_t mode, const uint8_t *label, size_t label_bytes, uint16_t *keep, uint16_t *flip)
+ALWAYS pailradish_reply draw(const uint16_t *font, pailradish_call call, const uint8_t *text, size_t text_bytes, uint16_t *keep,
+                             uint16_t *flip)
 {
     face f = face_of(by_words, font);
-    pailradish_reply reply = {0, x, 0};
-    int top = y - (int)f.ascent;
+    pailradish_shape shape = call.shape;
+    uint32_t mode = call.label.mode;
+    pailradish_reply reply = {0, call.label.x, 0};
+    int top = call.label.y - (int)f.ascent;
     int first_row = top < 0 ? -top : 0;
-    int end_row = top + (int)f.height > (int)rows ? (int)rows - top : (int)f.height;
-    for (size_t i = 0; i < label_bytes; i++) {
-        glyph g = glyph_of(by_words, font, &f, label[i]);
+    int end_row = top + (int)f.height > (int)shape.rows ? (int)shape.rows - top : (int)f.height;
+    for (size_t i = 0; i < text_bytes; i++) {
+        glyph g = glyph_of(by_words, font, &f, text[i]);
         int left = reply.pen + g.left;
         int first_column = left < 0 ? -left : 0;
-        int end_column = left + (int)g.columns > (int)width ? (int)width - left : (int)g.columns;
+        int end_column = left + (int)g.columns > (int)shape.width ? (int)shape.width - left : (int)g.columns;
         for (int row = first_row; row < end_row; row++) {
             const uint16_t *from = font + f.bitmap + (size_t)row * f.raster;
-            size_t to = (size_t)(top + row) * row_words;
+            size_t to = (size_t)(top + row) * shape.row_words;
             for (int column = first_column; column < end_column; column++) {
                 unsigned at = g.first + (unsigned)column;
                 if (!(from[at / 16] >> (15 - at % 16) & 1))
                     continue;
-                unsigned dot = strip * width + (unsigned)(left + column);
+                unsigned dot = call.label.strip * shape.width + (unsigned)(left + column);
                 uint16_t bit = 0x8000 >> dot % 16;
                 if (mode == PAILRADISH_PAINT)
                     flip[to + dot / 16] |= bit;
@@ -160,50 +171,46 @@ ALWAYS pailradish_reply draw(const uint16_t *font, uint32_t row_words, uint32_t 
     return reply;
 }
 
-pailradish_reply plain_paint(const uint16_t *font, size_t font_words, uint32_t row_words, uint32_t rows, uint32_t width,
-                             uint32_t strip, int32_t x, int32_t y, uint32_t mode, const uint8_t *label, size_t label_bytes,
+pailradish_reply plain_paint(const uint16_t *font, size_t font_words, pailradish_call call, const uint8_t *text, size_t text_bytes,
                              uint16_t *panel, size_t panel_words)
 {
     (void)font_words, (void)panel_words;
-    return draw(font, row_words, rows, width, strip, x, y, mode, label, label_bytes, NULL, panel);
+    return draw(font, call, text, text_bytes, NULL, panel);
 }
 
-pailradish_reply plain_gather(const uint16_t *font, size_t font_words, uint32_t row_words, uint32_t rows, uint32_t width,
-                              uint32_t strip, int32_t x, int32_t y, uint32_t mode, const uint8_t *label, size_t label_bytes,
+pailradish_reply plain_gather(const uint16_t *font, size_t font_words, pailradish_call call, const uint8_t *text, size_t text_bytes,
                               uint16_t *keep, size_t keep_words, uint16_t *flip, size_t flip_words)
 {
     (void)font_words, (void)keep_words, (void)flip_words;
-    return draw(font, row_words, rows, width, strip, x, y, mode, label, label_bytes, keep, flip);
+    return draw(font, call, text, text_bytes, keep, flip);
 }
 
-uint32_t plain_fresh(uint32_t row_words, uint32_t rows, uint32_t width, uint16_t *keep, size_t keep_words, uint16_t *flip,
-                     size_t flip_words)
+uint32_t plain_fresh(pailradish_shape shape, uint16_t *keep, size_t keep_words, uint16_t *flip, size_t flip_words)
 {
-    (void)width, (void)keep_words, (void)flip_words;
-    for (size_t i = 0; i < (size_t)row_words * rows; i++) {
+    (void)keep_words, (void)flip_words;
+    for (size_t i = 0; i < (size_t)shape.row_words * shape.rows; i++) {
         keep[i] = 0xFFFF;
         flip[i] = 0;
     }
     return 0;
 }
 
-uint32_t plain_join(uint32_t row_words, uint32_t rows, uint32_t width, uint16_t *keep, size_t keep_words, uint16_t *flip,
-                    size_t flip_words, const uint16_t *then_keep, size_t then_keep_words, const uint16_t *then_flip,
-                    size_t then_flip_words)
+uint32_t plain_join(pailradish_shape shape, uint16_t *keep, size_t keep_words, uint16_t *flip, size_t flip_words,
+                    const uint16_t *then_keep, size_t then_keep_words, const uint16_t *then_flip, size_t then_flip_words)
 {
-    (void)width, (void)keep_words, (void)flip_words, (void)then_keep_words, (void)then_flip_words;
-    for (size_t i = 0; i < (size_t)row_words * rows; i++) {
+    (void)keep_words, (void)flip_words, (void)then_keep_words, (void)then_flip_words;
+    for (size_t i = 0; i < (size_t)shape.row_words * shape.rows; i++) {
         keep[i] &= then_keep[i];
         flip[i] = (flip[i] & then_keep[i]) ^ then_flip[i];
     }
     return 0;
 }
 
-uint32_t plain_apply(uint32_t row_words, uint32_t rows, uint32_t width, const uint16_t *keep, size_t keep_words,
-                     const uint16_t *flip, size_t flip_words, uint16_t *panel, size_t panel_words)
+uint32_t plain_apply(pailradish_shape shape, const uint16_t *keep, size_t keep_words, const uint16_t *flip, size_t flip_words,
+                     uint16_t *panel, size_t panel_words)
 {
-    (void)width, (void)keep_words, (void)flip_words, (void)panel_words;
-    for (size_t i = 0; i < (size_t)row_words * rows; i++)
+    (void)keep_words, (void)flip_words, (void)panel_words;
+    for (size_t i = 0; i < (size_t)shape.row_words * shape.rows; i++)
         panel[i] = (panel[i] & keep[i]) ^ flip[i];
     return 0;
 }

@@ -18,7 +18,7 @@ fn mask(place: usize) -> u16 {
 
 /// The high byte comes first. An odd number of bytes makes no words.
 pub fn words_from_bytes(bytes: &[u8]) -> Option<Vec<u16>> {
-    if !bytes.len().is_multiple_of(2) {
+    if bytes.len() % 2 != 0 {
         return None;
     }
     let pairs = bytes.chunks(2);

@@ -4,7 +4,7 @@ use std::collections::BTreeMap;
 use std::io::{self, BufRead};
 
 /// The kinds of answers whose first number is a refusal's, in the order of printing.
-pub const KINDS: [&str; 11] = [
+pub const KINDS: [&str; 12] = [
     "check",
     "measure",
     "paint",
@@ -16,6 +16,7 @@ pub const KINDS: [&str; 11] = [
     "program",
     "deskcheck",
     "deskmeasure",
+    "words",
 ];
 
 /// How often each kind gave each number.
@@ -36,10 +37,9 @@ impl Coverage {
     fn count(&mut self, line: &str) {
         let mut fields = line.split(' ');
         let kind = fields.next().unwrap_or("");
-        let Some(kind) = KINDS.iter().position(|&name| name == kind) else {
-            return;
-        };
-        if let Some(number) = fields.next().and_then(|field| field.parse().ok()) {
+        let kind = KINDS.iter().position(|&name| name == kind);
+        let number = fields.next().and_then(|field| field.parse().ok());
+        if let (Some(kind), Some(number)) = (kind, number) {
             *self.counts.entry((kind, number)).or_default() += 1;
         }
     }

@@ -79,7 +79,7 @@ impl<'a> CuFile<'a> {
         refuse_if(!(1..=16).contains(&word_width), 20)?;
         let character_words = (2 + height * word_width) as usize;
         let rest = &words[2..];
-        refuse_if(!rest.len().is_multiple_of(character_words), 21)?;
+        refuse_if(rest.len() % character_words != 0, 21)?;
         let characters = rest.chunks(character_words).map(Character::read).collect();
         Ok(CuFile {
             height,

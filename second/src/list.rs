@@ -47,6 +47,7 @@ pub enum Command {
     Program,
     DeskCheck,
     DeskMeasure { x: i64, label: Vec<u8> },
+    Words,
     Show(Register),
 }
 
@@ -142,6 +143,7 @@ fn parse_command(name: &str, fields: &mut Fields) -> Result<Command, String> {
             x: fields.signed_number()?,
             label: fields.label()?,
         },
+        "words" => Command::Words,
         "show" => Command::Show(fields.register()?),
         _ => return Err(format!("no command is called {name:?}")),
     })
@@ -237,7 +239,7 @@ impl<'a> Fields<'a> {
             if count > (limit - values.len()) as i64 {
                 return Err(format!("there are more than {limit} values"));
             }
-            values.extend(std::iter::repeat_n(value, count as usize));
+            values.extend(std::iter::repeat(value).take(count as usize));
         }
         Ok(values)
     }
@@ -292,12 +294,15 @@ pub fn bytes_text(bytes: &[u8]) -> String {
 
 fn spelled<T: PartialEq + Copy>(values: &[T], spelling: impl Fn(T) -> String) -> String {
     let mut text = String::new();
-    for equal in values.chunk_by(|a, b| a == b) {
+    let mut rest = values;
+    while let Some(&first) = rest.first() {
+        let count = rest.iter().take_while(|&&value| value == first).count();
         text.push(' ');
-        text.push_str(&spelling(equal[0]));
-        if equal.len() > 1 {
-            text.push_str(&format!("*{}", equal.len()));
+        text.push_str(&spelling(first));
+        if count > 1 {
+            text.push_str(&format!("*{count}"));
         }
+        rest = &rest[count..];
     }
     text
 }

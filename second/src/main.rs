@@ -24,14 +24,17 @@ use std::path::Path;
 use std::process::ExitCode;
 
 use coverage::Coverage;
+use panel::Shape;
 use replay::Stopped;
 
 const USAGE: &str = "usage: second replay < LIST > ANSWERS
        second generate fonts|labels|sheets|cu|conversions|desk SEED COUNT > LIST
        second programs SEED COUNT DIRECTORY
        second preview FONT R H W < LABELS > PICTURE
+       second preview --help
        second previews SEED COUNT DIRECTORY FONT..
-       second coverage < ANSWERS";
+       second coverage < ANSWERS
+       second messages";
 
 fn main() -> ExitCode {
     let arguments: Vec<String> = std::env::args().skip(1).collect();
@@ -40,11 +43,13 @@ fn main() -> ExitCode {
         ["replay"] => answer_list(),
         ["generate", kind, seed, count] => write_list(kind, seed, count),
         ["programs", seed, count, directory] => write_programs(seed, count, directory),
+        ["preview", "--help"] => write_output(preview::HELP.as_bytes()),
         ["preview", words @ ..] => write_preview(words),
         ["previews", seed, count, directory, fonts @ ..] => {
             write_previews(seed, count, directory, fonts)
         }
         ["coverage"] => count_answers(),
+        ["messages"] => write_messages(),
         _ => Err(USAGE.to_string()),
     };
     match outcome {
@@ -81,10 +86,16 @@ fn write_programs(seed: &str, count: &str, directory: &str) -> Result<(), String
 }
 
 fn write_preview(words: &[&str]) -> Result<(), String> {
-    let Some((font, shape)) = preview::arguments(words) else {
-        eprint!("{}", preview::USAGE);
-        return Ok(());
-    };
+    match preview::arguments(words) {
+        Some((font, shape)) => paint_preview(font, shape),
+        None => {
+            eprint!("{}", preview::USAGE);
+            Ok(())
+        }
+    }
+}
+
+fn paint_preview(font: &str, shape: Shape) -> Result<(), String> {
     let font = fs::read(font).ok();
     let mut lines = Vec::new();
     io::stdin()
@@ -92,9 +103,13 @@ fn write_preview(words: &[&str]) -> Result<(), String> {
         .map_err(|error| error.to_string())?;
     let written = preview::preview(font.as_deref(), shape, &lines);
     eprint!("{}", written.errors);
+    write_output(&written.picture)
+}
+
+fn write_output(bytes: &[u8]) -> Result<(), String> {
     let mut output = io::stdout().lock();
     output
-        .write_all(&written.picture)
+        .write_all(bytes)
         .and_then(|()| output.flush())
         .map_err(|error| error.to_string())
 }
@@ -112,6 +127,13 @@ fn count_answers() -> Result<(), String> {
     let coverage = Coverage::of(io::stdin().lock()).map_err(|error| error.to_string())?;
     for line in coverage.lines() {
         println!("{line}");
+    }
+    Ok(())
+}
+
+fn write_messages() -> Result<(), String> {
+    for (number, message) in refusal::MESSAGES {
+        println!("{number} {message}");
     }
     Ok(())
 }

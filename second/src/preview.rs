@@ -2,11 +2,28 @@
 
 use crate::bits::{bit, words_from_bytes};
 use crate::font;
-use crate::label::{paint, Call};
+use crate::label::{paint, Call, Pen};
 use crate::panel::Shape;
 use crate::refusal::Refused;
 
 pub const USAGE: &str = "usage: preview FONT R H W\n";
+
+pub const HELP: &str = "\
+usage: preview FONT R H W < LINES > PICTURE
+
+Paints labels on a panel and writes a picture of it (PBM, kind P4).
+FONT is a strike file. R is the words of a row of the panel, 16 dots each, H its rows, W the columns of a strip.
+
+Each line of the input is STRIP X Y MODE TEXT, with one space behind each number:
+  STRIP  0 to 31
+  X      where the pen starts, in columns from the left of the strip: -1024 to 1023
+  Y      the row of the baseline: the first row below the letters' feet, -1024 to 1023
+  MODE   0 paints, 1 erases, 2 inverts
+  TEXT   up to 64 bytes, to the end of the line
+Empty lines, and lines that begin with #, are passed over.
+
+What is wrong with a line, and how many codes of it the font does not have, is said on standard error; the rest is painted all the same.
+";
 
 const MOST_FONT_BYTES: usize = 65_536;
 const MOST_LINE_BYTES: usize = 1_000;
@@ -23,26 +40,22 @@ pub struct Written {
 enum Line {
     PassedOver,
     NoLabel,
-    Label {
-        strip: i64,
-        x: i64,
-        y: i64,
-        mode: i64,
-        text: Vec<u8>,
-    },
+    Label(Call),
 }
 
 /// The font's name and the shape, of the arguments behind the program's name.
 pub fn arguments<'a>(words: &[&'a str]) -> Option<(&'a str, Shape)> {
-    let [font, words_per_row, rows, strip_width] = words else {
-        return None;
-    };
-    let shape = Shape {
-        words_per_row: unsigned(words_per_row.as_bytes())?,
-        rows: unsigned(rows.as_bytes())?,
-        strip_width: unsigned(strip_width.as_bytes())?,
-    };
-    Some((font, shape))
+    match words {
+        [font, words_per_row, rows, strip_width] => {
+            let shape = Shape {
+                words_per_row: unsigned(words_per_row.as_bytes())?,
+                rows: unsigned(rows.as_bytes())?,
+                strip_width: unsigned(strip_width.as_bytes())?,
+            };
+            Some((font, shape))
+        }
+        _ => None,
+    }
 }
 
 /// The font is none where its file could not be read.
@@ -50,7 +63,7 @@ pub fn preview(font_bytes: Option<&[u8]>, shape: Shape, lines: &[u8]) -> Written
     let mut panel = vec![0; PANEL_WORDS];
     let tested = font_words(font_bytes).and_then(|words| match shape.test(&[&panel]) {
         Ok(()) => Ok(words),
-        Err(Refused(number)) => Err(format!("panel: refused {number}\n")),
+        Err(refused) => Err(format!("panel: {}\n", refused.in_words())),
     });
     match tested {
         Err(errors) => Written {
@@ -70,37 +83,22 @@ fn font_words(bytes: Option<&[u8]>) -> Result<Vec<u16>, String> {
     if bytes.len() > MOST_FONT_BYTES {
         return Err("font: too long\n".to_string());
     }
-    let words = words_from_bytes(bytes).ok_or("font: refused 14\n")?;
-    match font::read(&words) {
-        Ok(_) => Ok(words),
-        Err(Refused(number)) => Err(format!("font: refused {number}\n")),
-    }
+    accepted_words(bytes).map_err(|refused| format!("font: {}\n", refused.in_words()))
+}
+
+fn accepted_words(bytes: &[u8]) -> Result<Vec<u16>, Refused> {
+    let words = words_from_bytes(bytes).ok_or(Refused(14))?;
+    font::read(&words)?;
+    Ok(words)
 }
 
 fn paint_lines(font: &[u16], shape: Shape, lines: &[u8], panel: &mut [u16]) -> String {
     let mut errors = String::new();
     for (before, line) in lines.split(|&byte| byte == b'\n').enumerate() {
-        let reply = match read_line(line) {
+        let reply = match read_line(shape, without_return(line)) {
             Line::PassedOver => None,
             Line::NoLabel => Some("not a label".to_string()),
-            Line::Label {
-                strip,
-                x,
-                y,
-                mode,
-                text,
-            } => {
-                let call = Call {
-                    shape,
-                    strip,
-                    x,
-                    y,
-                    mode,
-                    label: text,
-                };
-                let refused = paint(font, &call, panel).err();
-                refused.map(|Refused(number)| format!("refused {number}"))
-            }
+            Line::Label(call) => said_of(paint(font, &call, panel)),
         };
         if let Some(reply) = reply {
             errors.push_str(&format!("line {}: {reply}\n", before + 1));
@@ -109,26 +107,40 @@ fn paint_lines(font: &[u16], shape: Shape, lines: &[u8], panel: &mut [u16]) -> S
     errors
 }
 
-fn read_line(line: &[u8]) -> Line {
+/// A carriage return at the end of a line is no part of it; of two the first is.
+fn without_return(line: &[u8]) -> &[u8] {
+    line.strip_suffix(b"\r").unwrap_or(line)
+}
+
+fn said_of(painted: Result<Pen, Refused>) -> Option<String> {
+    match painted {
+        Err(refused) => Some(refused.in_words()),
+        Ok(Pen { substitutes: 0, .. }) => None,
+        Ok(Pen { substitutes, .. }) => Some(format!("codes shown as the dummy: {substitutes}")),
+    }
+}
+
+fn read_line(shape: Shape, line: &[u8]) -> Line {
     if line.is_empty() || line[0] == b'#' {
         return Line::PassedOver;
     }
     if line.len() > MOST_LINE_BYTES {
         return Line::NoLabel;
     }
-    label_line(line).unwrap_or(Line::NoLabel)
+    label_line(shape, line).map_or(Line::NoLabel, Line::Label)
 }
 
 /// Four numbers and the text, with a space between any two of the five. The text and the
 /// space before it may be missing.
-fn label_line(line: &[u8]) -> Option<Line> {
+fn label_line(shape: Shape, line: &[u8]) -> Option<Call> {
     let mut fields = line.splitn(5, |&byte| byte == b' ');
-    Some(Line::Label {
+    Some(Call {
+        shape,
         strip: unsigned(fields.next()?)?,
         x: signed(fields.next()?)?,
         y: signed(fields.next()?)?,
         mode: unsigned(fields.next()?)?,
-        text: fields.next().unwrap_or_default().to_vec(),
+        label: fields.next().unwrap_or_default().to_vec(),
     })
 }
 

@@ -137,6 +137,7 @@ impl Replay {
             Command::DeskMeasure { x, label } => {
                 pen_answer("deskmeasure", desk::measure_label(&self.file, x, &label))
             }
+            Command::Words => count_answer("words", desk::words(&self.file, &mut self.out)),
             Command::Show(register) => self.show(register),
             Command::SetWords(..) | Command::SetFile(_) | Command::Written => {
                 unreachable!("a setting has no answer")
@@ -179,9 +180,8 @@ impl Replay {
 
     fn convert(&mut self) -> String {
         let outcome = cu::convert(&self.cu, &mut self.out);
-        let count = outcome.unwrap_or(0);
-        self.written = self.out[..count].to_vec();
-        format!("convert {} {count}", number_of(&outcome))
+        self.written = self.out[..outcome.unwrap_or(0)].to_vec();
+        count_answer("convert", outcome)
     }
 
     fn program(&self) -> String {
@@ -226,4 +226,8 @@ fn pen_answer(call: &str, outcome: Result<Pen, Refused>) -> String {
         Ok(pen) => format!("{call} 0 {} {}", pen.x, pen.substitutes),
         Err(Refused(number)) => format!("{call} {number} 0 0"),
     }
+}
+
+fn count_answer(call: &str, outcome: Result<usize, Refused>) -> String {
+    format!("{call} {} {}", number_of(&outcome), outcome.unwrap_or(0))
 }

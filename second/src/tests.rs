@@ -1,4 +1,5 @@
 mod conversion;
+mod desk;
 mod generated;
 mod lists;
 mod paper;

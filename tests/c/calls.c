@@ -22,10 +22,10 @@ static slice output = {.name = "out", .size = 2, .most = 70000};
 static slice file = {.name = "file", .size = 1, .most = 140000};
 static slice *const registers[] = {&font, &cu, &panel, &keep1, &flip1, &keep2, &flip2, &output, &file};
 
-/* No registers: the words of the last conversion, the bytes of the font's words, and the label of a call. */
+/* No registers: the words of the last conversion, the bytes of the font's words, and the text of a label. */
 static slice last_written = {.name = "written", .size = 2, .most = 70000};
 static slice font_bytes = {.name = "the font's bytes", .size = 1, .most = 140000};
-static slice label = {.name = "label", .size = 1, .most = 1000};
+static slice text = {.name = "text", .size = 1, .most = 1000};
 
 #define COUNT(array) (sizeof(array) / sizeof(array)[0])
 
@@ -45,7 +45,19 @@ static void answer_reply(const char *call, pailradish_reply reply)
     printf("%s %" PRIu32 " %" PRId32 " %" PRIu32 "\n", call, reply.number, reply.pen, reply.substitutes);
 }
 
-/* The calls of the desk, which hands its font as bytes. Arguments are read into variables first: C does not say in which order it evaluates them. */
+/* The words go to `output`. */
+static void answer_conversion(const char *call, pailradish_conversion done)
+{
+    take_back(done.number != 0);
+    if (done.number != 0 && done.words != 0)
+        breach("a number beside a refusal", call);
+    if (done.words > output.count)
+        breach("more words written than there are", call);
+    printf("%s %" PRIu32 " %zu\n", call, done.number, done.words);
+}
+
+/* The calls of the desk, which hands its font as bytes. Arguments are read into variables first: C does not say in which order it
+   evaluates them. */
 
 static void check_bytes(const char *call, const slice *bytes)
 {
@@ -56,8 +68,8 @@ static void measure_bytes(const char *call, const slice *bytes)
 {
     int32_t x = next_signed_number();
 
-    rest_of_line(&label);
-    answer_reply(call, pailradish_measure(lend(bytes), bytes->count, x, lend(&label), label.count));
+    rest_of_line(&text);
+    answer_reply(call, pailradish_measure(lend(bytes), bytes->count, x, lend(&text), text.count));
 }
 
 /* In bytes the high one of a word comes first. */
@@ -93,19 +105,20 @@ static void desk_measure(void)
     measure_bytes("deskmeasure", &file);
 }
 
-/* The calls on a panel and on sheets. */
+static void words(void)
+{
+    answer_conversion("words", pailradish_words(lend(&file), file.count, lend_to_write(&output), output.count));
+}
 
-typedef struct {
-    uint32_t row_words, rows, width;
-} shape;
+/* The calls on a panel and on sheets. */
 
 typedef struct {
     slice *keep, *flip;
 } sheet;
 
-static shape next_shape(void)
+static pailradish_shape next_shape(void)
 {
-    shape read;
+    pailradish_shape read;
 
     read.row_words = next_number();
     read.rows = next_number();
@@ -118,67 +131,58 @@ static sheet next_sheet(void)
     return next_number() == 1 ? (sheet){&keep1, &flip1} : (sheet){&keep2, &flip2};
 }
 
-/* What a label call has beside its font and its shape. The label itself goes into its slice. */
-typedef struct {
-    uint32_t strip;
-    int32_t x, y;
-    uint32_t mode;
-} label_call;
-
-static label_call next_label_call(void)
+/* The text of the label goes into its slice. */
+static pailradish_call next_call(void)
 {
-    label_call read;
+    pailradish_call read;
 
-    read.strip = next_number();
-    read.x = next_signed_number();
-    read.y = next_signed_number();
-    read.mode = next_number();
-    rest_of_line(&label);
+    read.shape = next_shape();
+    read.label.strip = next_number();
+    read.label.x = next_signed_number();
+    read.label.y = next_signed_number();
+    read.label.mode = next_number();
+    rest_of_line(&text);
     return read;
 }
 
 static void paint(void)
 {
-    shape s = next_shape();
-    label_call c = next_label_call();
+    pailradish_call call = next_call();
 
-    answer_reply("paint", pailradish_paint(lend(&font), font.count, s.row_words, s.rows, s.width, c.strip, c.x, c.y, c.mode, lend(&label),
-                                           label.count, lend_to_write(&panel), panel.count));
+    answer_reply("paint", pailradish_paint(lend(&font), font.count, call, lend(&text), text.count, lend_to_write(&panel), panel.count));
 }
 
 static void fresh(void)
 {
-    sheet t = next_sheet();
-    shape s = next_shape();
+    sheet made = next_sheet();
+    pailradish_shape shape = next_shape();
 
-    answer_number("fresh", pailradish_fresh(s.row_words, s.rows, s.width, lend_to_write(t.keep), t.keep->count, lend_to_write(t.flip),
-                                            t.flip->count));
+    answer_number("fresh", pailradish_fresh(shape, lend_to_write(made.keep), made.keep->count, lend_to_write(made.flip), made.flip->count));
 }
 
 static void gather(void)
 {
-    sheet t = next_sheet();
-    shape s = next_shape();
-    label_call c = next_label_call();
+    sheet onto = next_sheet();
+    pailradish_call call = next_call();
 
-    answer_reply("gather", pailradish_gather(lend(&font), font.count, s.row_words, s.rows, s.width, c.strip, c.x, c.y, c.mode, lend(&label),
-                                             label.count, lend_to_write(t.keep), t.keep->count, lend_to_write(t.flip), t.flip->count));
+    answer_reply("gather", pailradish_gather(lend(&font), font.count, call, lend(&text), text.count, lend_to_write(onto.keep),
+                                             onto.keep->count, lend_to_write(onto.flip), onto.flip->count));
 }
 
 static void join(void)
 {
-    shape s = next_shape();
+    pailradish_shape shape = next_shape();
 
-    answer_number("join", pailradish_join(s.row_words, s.rows, s.width, lend_to_write(&keep1), keep1.count, lend_to_write(&flip1), flip1.count,
-                                          lend(&keep2), keep2.count, lend(&flip2), flip2.count));
+    answer_number("join", pailradish_join(shape, lend_to_write(&keep1), keep1.count, lend_to_write(&flip1), flip1.count, lend(&keep2),
+                                          keep2.count, lend(&flip2), flip2.count));
 }
 
 static void apply(void)
 {
-    sheet t = next_sheet();
-    shape s = next_shape();
+    sheet applied = next_sheet();
+    pailradish_shape shape = next_shape();
 
-    answer_number("apply", pailradish_apply(s.row_words, s.rows, s.width, lend(t.keep), t.keep->count, lend(t.flip), t.flip->count,
+    answer_number("apply", pailradish_apply(shape, lend(applied.keep), applied.keep->count, lend(applied.flip), applied.flip->count,
                                             lend_to_write(&panel), panel.count));
 }
 
@@ -194,13 +198,8 @@ static void convert(void)
 {
     pailradish_conversion done = pailradish_convert(lend(&cu), cu.count, lend_to_write(&output), output.count);
 
-    take_back(done.number != 0);
-    if (done.number != 0 && done.words != 0)
-        breach("a number beside a refusal", "convert");
-    if (done.words > output.count)
-        breach("more words written than there are", "convert");
+    answer_conversion("convert", done);
     copy_words(&last_written, &output, done.words);
-    printf("convert %" PRIu32 " %zu\n", done.number, done.words);
 }
 
 static void written(void)
@@ -234,10 +233,10 @@ static const struct {
     const char *name;
     void (*perform)(void);
 } commands[] = {
-    {"check", check},     {"measure", measure}, {"deskcheck", desk_check}, {"deskmeasure", desk_measure},
-    {"paint", paint},     {"fresh", fresh},     {"gather", gather},        {"join", join},
-    {"apply", apply},     {"convert", convert}, {"written", written},      {"show", show},
-    {"glyph", pass_over}, {"dots", pass_over},  {"row", pass_over},        {"program", pass_over},
+    {"check", check},     {"measure", measure}, {"deskcheck", desk_check}, {"deskmeasure", desk_measure}, {"words", words},
+    {"paint", paint},     {"fresh", fresh},     {"gather", gather},        {"join", join},                {"apply", apply},
+    {"convert", convert}, {"written", written}, {"show", show},            {"glyph", pass_over},          {"dots", pass_over},
+    {"row", pass_over},   {"program", pass_over},
 };
 
 static void perform(const char *name)

@@ -1,5 +1,5 @@
-/* The exports with one fault: linked in place of libdesk.a, to see that calls.c notices it. FAULT names the fault, and SLICE the slice of the
-   call that it is in, counted from 0. */
+/* The exports with one fault: linked in place of libdesk.a, to see that calls.c notices it. FAULT names the fault, and SLICE the slice of
+   the call that it is in, counted from 0. */
 #include <stdbool.h>
 #include <stdlib.h>
 #include <string.h>
@@ -43,6 +43,12 @@ static pailradish_reply reply(const part *parts)
     return (pailradish_reply){commit(parts), fault_is("pen"), fault_is("substitutes")};
 }
 
+/* A conversion has a count of words where a reply has its pen. */
+static pailradish_conversion conversion(const part *parts, size_t room)
+{
+    return (pailradish_conversion){commit(parts), fault_is("too-many-words") ? room + 1 : fault_is("pen")};
+}
+
 #define BYTES(slice) {slice, slice##_bytes}
 #define WORDS(slice) {slice, 2 * slice##_words}
 
@@ -51,51 +57,52 @@ uint32_t pailradish_check(const uint8_t *font, size_t font_bytes)
     return commit((part[]){BYTES(font)});
 }
 
-pailradish_reply pailradish_measure(const uint8_t *font, size_t font_bytes, int32_t x, const uint8_t *label, size_t label_bytes)
+pailradish_reply pailradish_measure(const uint8_t *font, size_t font_bytes, int32_t x, const uint8_t *text, size_t text_bytes)
 {
     (void)x;
-    return reply((part[]){BYTES(font), BYTES(label)});
+    return reply((part[]){BYTES(font), BYTES(text)});
 }
 
-pailradish_reply pailradish_paint(const uint16_t *font, size_t font_words, uint32_t row_words, uint32_t rows, uint32_t width,
-                                  uint32_t strip, int32_t x, int32_t y, uint32_t mode, const uint8_t *label, size_t label_bytes,
+pailradish_conversion pailradish_words(const uint8_t *file, size_t file_bytes, uint16_t *out, size_t out_words)
+{
+    return conversion((part[]){BYTES(file), WORDS(out)}, out_words);
+}
+
+pailradish_reply pailradish_paint(const uint16_t *font, size_t font_words, pailradish_call call, const uint8_t *text, size_t text_bytes,
                                   uint16_t *panel, size_t panel_words)
 {
-    (void)row_words, (void)rows, (void)width, (void)strip, (void)x, (void)y, (void)mode;
-    return reply((part[]){WORDS(font), BYTES(label), WORDS(panel)});
+    (void)call;
+    return reply((part[]){WORDS(font), BYTES(text), WORDS(panel)});
 }
 
-uint32_t pailradish_fresh(uint32_t row_words, uint32_t rows, uint32_t width, uint16_t *keep, size_t keep_words, uint16_t *flip,
-                          size_t flip_words)
+uint32_t pailradish_fresh(pailradish_shape shape, uint16_t *keep, size_t keep_words, uint16_t *flip, size_t flip_words)
 {
-    (void)row_words, (void)rows, (void)width;
+    (void)shape;
     return commit((part[]){WORDS(keep), WORDS(flip)});
 }
 
-pailradish_reply pailradish_gather(const uint16_t *font, size_t font_words, uint32_t row_words, uint32_t rows, uint32_t width,
-                                   uint32_t strip, int32_t x, int32_t y, uint32_t mode, const uint8_t *label, size_t label_bytes,
+pailradish_reply pailradish_gather(const uint16_t *font, size_t font_words, pailradish_call call, const uint8_t *text, size_t text_bytes,
                                    uint16_t *keep, size_t keep_words, uint16_t *flip, size_t flip_words)
 {
-    (void)row_words, (void)rows, (void)width, (void)strip, (void)x, (void)y, (void)mode;
-    return reply((part[]){WORDS(font), BYTES(label), WORDS(keep), WORDS(flip)});
+    (void)call;
+    return reply((part[]){WORDS(font), BYTES(text), WORDS(keep), WORDS(flip)});
 }
 
-uint32_t pailradish_join(uint32_t row_words, uint32_t rows, uint32_t width, uint16_t *keep, size_t keep_words, uint16_t *flip,
-                         size_t flip_words, const uint16_t *then_keep, size_t then_keep_words, const uint16_t *then_flip,
-                         size_t then_flip_words)
+uint32_t pailradish_join(pailradish_shape shape, uint16_t *keep, size_t keep_words, uint16_t *flip, size_t flip_words,
+                         const uint16_t *then_keep, size_t then_keep_words, const uint16_t *then_flip, size_t then_flip_words)
 {
-    (void)row_words, (void)rows, (void)width;
+    (void)shape;
     return commit((part[]){WORDS(keep), WORDS(flip), WORDS(then_keep), WORDS(then_flip)});
 }
 
-uint32_t pailradish_apply(uint32_t row_words, uint32_t rows, uint32_t width, const uint16_t *keep, size_t keep_words,
-                          const uint16_t *flip, size_t flip_words, uint16_t *panel, size_t panel_words)
+uint32_t pailradish_apply(pailradish_shape shape, const uint16_t *keep, size_t keep_words, const uint16_t *flip, size_t flip_words,
+                          uint16_t *panel, size_t panel_words)
 {
-    (void)row_words, (void)rows, (void)width;
+    (void)shape;
     return commit((part[]){WORDS(keep), WORDS(flip), WORDS(panel)});
 }
 
 pailradish_conversion pailradish_convert(const uint16_t *cu, size_t cu_words, uint16_t *out, size_t out_words)
 {
-    return (pailradish_conversion){commit((part[]){WORDS(cu), WORDS(out)}), fault_is("pen")};
+    return conversion((part[]){WORDS(cu), WORDS(out)}, out_words);
 }

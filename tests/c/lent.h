@@ -1,7 +1,8 @@
 /* The memory that one call is lent.
 
    Each slice is copied into pages of its own. On one side it touches a page without access, so that even a read past that side traps. What
-   is left of its pages on the other side holds guard bytes, which must be there after the call, and behind those is a page without access too. */
+   is left of its pages on the other side holds guard bytes, which must be there after the call, and behind those is a page without access
+   too. */
 #ifndef LENT_H
 #define LENT_H
 
@@ -17,8 +18,8 @@ bool place_slices(const char *name);
 const void *lend(const slice *from);
 void *lend_to_write(slice *from);
 
-/* After the call: takes back all that it was lent. The guards must stand, what was lent to be read must be as it was, and, where the call was
-   refused, what was lent to be written too; else the program ends with status 1. What was written becomes the slice's own. */
+/* After the call: takes back all that it was lent. The guards must stand, what was lent to be read must be as it was, and, where the call
+   was refused, what was lent to be written too; else the program ends with status 1. What was written becomes the slice's own. */
 void take_back(bool refused);
 
 /* Says what is broken, and ends the program with status 1. */

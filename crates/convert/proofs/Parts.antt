@@ -1,4 +1,4 @@
--- The file written as the reader takes it apart: its header, its pointers and its width entries.
+-- The file written as the reader takes it apart: its view, its pointers and its width entries.
 use Prim.Native.Nat.{ℕ, _+_, _*_, _<_, _≤_}
 use mathlib.Core.Path.{_≡_, refl, _∙_}
 use mathlib.Core.Bool.{Bool, true, false, cond}
@@ -7,8 +7,8 @@ use native.Mathlib.Omega.{arith}
 use borrow.Author.Tests.{lt-ltb, le-ltb, eq-eqb, ne-eqb}
 use Rattle.words.specs.Word.{word, bitOf}
 use Rattle.words.proofs.Tables.{table-at, part-table}
-use Rattle.fonts.specs.declared.Header.{Header}
-use Rattle.fonts.specs.Strike.{kernedFormat, bodyAt, headerOf, bitmapAt, pointersOf, widthsOf}
+use Rattle.fonts.specs.declared.View.{View}
+use Rattle.fonts.specs.Strike.{kernedFormat, bodyAt, headerBy, headerOf, bodyOf, viewOf, bitmapAt, pointersOf, widthsOf}
 use Rattle.convert.specs.Writing.{Drawing, minCode, maxCode, codeCount, fbbdy, rasterOf, pointerAt, allColumns, allEqual, formatWord, maxWidth, lengthWord, pointerWord, widthEntry, headerWords, fileOf, fileWords}
 use Rattle.convert.proofs.File.{pointersWritten, widthsWritten, file-length, file-pointer, file-entry}
 
@@ -26,30 +26,34 @@ module _ (d : Drawing) where
   unfolding kernedFormat bitOf
   format-kerned = of-format (λ f. kernedFormat f ≡ true) refl refl
 
-  abbrev pub headerWritten : Header
-  headerWritten = record {
-    format = formatWord d;
-    min = minCode d;
-    max = maxCode d;
-    fbbox = d .fbbox;
-    bodywords = lengthWord d;
-    ascent = d .ascent;
-    descent = d .descent;
-    xoffset = 0;
-    raster = rasterOf d;
+  abbrev pub viewWritten : View
+  viewWritten = record {
+    header = record {
+      format = formatWord d;
+      min = minCode d;
+      max = maxCode d;
+      fbbox = d .fbbox;
+    };
+    body = record {
+      words = lengthWord d;
+      ascent = d .ascent;
+      descent = d .descent;
+      xoffset = 0;
+      raster = rasterOf d;
+    };
   }
 
-  pub header-read : headerOf (fileOf d) ≡ headerWritten
-  unfolding headerOf bodyAt fileOf headerWords
-  header-read = rw format-kerned
+  pub view-read : viewOf (fileOf d) ≡ viewWritten
+  unfolding viewOf headerOf headerBy bodyOf bodyAt fileOf headerWords
+  view-read = rw format-kerned
 
-  pub pointers-read : pointersOf headerWritten (fileOf d) ≡ pointersWritten d
+  pub pointers-read : pointersOf viewWritten (fileOf d) ≡ pointersWritten d
   unfolding pointersOf bitmapAt codeCount fbbdy fileWords
   pointers-read =
       let long = file-length d in
       rw format-kerned (part-table (fileOf d) (13 + rasterOf d * fbbdy d) (codeCount d + 2) (pointerWord d) (omega arith) (file-pointer d))
 
-  pub widths-read : widthsOf headerWritten (fileOf d) ≡ widthsWritten d
+  pub widths-read : widthsOf viewWritten (fileOf d) ≡ widthsWritten d
   unfolding widthsOf bitmapAt codeCount fbbdy fileWords
   widths-read =
       let long = file-length d in

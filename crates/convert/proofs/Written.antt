@@ -13,14 +13,15 @@ use Rattle.words.proofs.Bits.{bit-word-of}
 use Rattle.words.proofs.Rows.{row-of, word-of-row, row-room}
 use Rattle.fonts.specs.declared.Glyph.{Glyph}
 use Rattle.fonts.specs.Strike.{bitmapAt, fileSum}
-use Rattle.fonts.specs.Reading.{tooShort, badFormat, kernedTooShort, badCodes, badBox, badSizes, badLength, badPointers, fallsFrom, noDummy, headerNumber, tableNumber, fontNumber, accepted}
+use Rattle.fonts.specs.Reading.{tooShort, badFormat, kernedTooShort, badCodes, badBox, badSizes, badLength, lengthsDiffer, badPointers, fallsFrom, noDummy}
+use Rattle.fonts.specs.Reading.{headNumber, tableNumber, numberBy, fontNumber, accepted}
 use Rattle.fonts.specs.declared.Entry.{Entry}
 use Rattle.fonts.specs.Entry.{entryAt, present, columnsOf, leftOf, advanceOf}
 use Rattle.fonts.specs.Face.{exists, shown, glyphBy, glyphFrom, dotOf, faceFrom, faceOf}
 use Rattle.fonts.proofs.Falling.{rising}
 use Rattle.convert.specs.Writing.{Drawing, minCode, maxCode, codeCount, fbbdy, rasterOf, pointerAt, allColumns, maxWidth, lengthWord, strikeDot, bitmapWord, pointerWord, fileOf, fileWords}
 use Rattle.convert.proofs.File.{pointersWritten, widthsWritten, file-length, file-bitmap}
-use Rattle.convert.proofs.Parts.{of-format, format-kerned, headerWritten, header-read, pointers-read, widths-read, pointer-at, pointer-end, entry-at, entry-dummy}
+use Rattle.convert.proofs.Parts.{of-format, format-kerned, viewWritten, view-read, pointers-read, widths-read, pointer-at, pointer-end, entry-at, entry-dummy}
 use Rattle.convert.proofs.Columns.{pointer-next, pointer-rises, raster-holds, strike-picture, strike-dummy, strike-bit}
 use Rattle.convert.proofs.Sound.{Sound, from-min, upto-max, in-tables, counted, own-columns, max-small, min-max, raster-some, raster-narrow, spacing-small, entry-small, max-width-small}
 
@@ -51,53 +52,53 @@ module _ (d : Drawing) (s : Sound d) where
   unfolding tooShort fileWords
   not-short = le-ltb (fileWords d) 9 (omega arith)
 
-  good-format : badFormat (headerWritten d) ≡ false
+  good-format : badFormat (viewWritten d .header) ≡ false
   unfolding badFormat bitOf
   good-format = of-format d (λ f. (eqb (bitOf f 0) 0 || eqb (bitOf f 1) 1 || ltb 0 (f % 4096)) ≡ false) refl refl
 
-  long-enough : kernedTooShort (headerWritten d) (fileWords d) ≡ false
+  long-enough : kernedTooShort (viewWritten d .header) (fileWords d) ≡ false
   unfolding kernedTooShort fileWords
   long-enough = rw (format-kerned d, le-ltb (fileWords d) 13 (omega arith))
 
-  good-codes : badCodes (headerWritten d) ≡ false
+  good-codes : badCodes (viewWritten d .header) ≡ false
   unfolding badCodes
   good-codes = rw (le-ltb (maxCode d) (minCode d) (min-max d s), le-ltb 255 (maxCode d) (let small = max-small d s in omega arith))
 
-  good-box : badBox (headerWritten d) ≡ false
+  good-box : badBox (viewWritten d .header) ≡ false
   unfolding badBox
   good-box = rw (format-kerned d, is-within 1793 2303 (placeOfWord (d .fbbox)) (s .box-from) (s .box-upto))
 
-  good-sizes : badSizes (headerWritten d) ≡ false
+  good-sizes : badSizes (viewWritten d .body) ≡ false
   unfolding badSizes fbbdy
   good-sizes =
-      rw (is-within 1 256 (fbbdy d) (s .high) (s .low), is-within 1 4096 (rasterOf d) (raster-some d s) (raster-narrow d s), good-box)
+      rw (is-within 1 256 (fbbdy d) (s .high) (s .low), is-within 1 4096 (rasterOf d) (raster-some d s) (raster-narrow d s))
 
-  good-length : badLength (headerWritten d) (fileWords d) ≡ false
-  unfolding badLength lengthWord fileSum fileWords codeCount fbbdy
+  good-length : badLength (viewWritten d) (fileWords d) ≡ false
+  unfolding lengthsDiffer lengthWord fileSum fileWords codeCount fbbdy
   good-length = rw (format-kerned d, eq-eqb (lengthWord d) (lengthWord d) refl, eq-eqb (fileWords d) (fileWords d) refl)
 
-  header-accepted : headerNumber (headerWritten d) (fileWords d) ≡ 0
-  unfolding headerNumber firstOf
-  header-accepted = rw (not-short, good-format, long-enough, good-codes, good-sizes, good-length)
+  head-accepted : headNumber (viewWritten d) (fileWords d) ≡ 0
+  unfolding headNumber firstOf
+  head-accepted = rw (not-short, good-format, long-enough, good-codes, good-box, good-sizes, good-length)
 
-  good-pointers : badPointers (headerWritten d) (fallsFrom 0 (pointersWritten d)) (entryWritten d (codeCount d)) ≡ false
+  good-pointers : badPointers (viewWritten d .body) (fallsFrom 0 (pointersWritten d)) (entryWritten d (codeCount d)) ≡ false
   unfolding badPointers codeCount
   good-pointers =
       rw (rising (codeCount d + 2) 0 (pointerWord d) (omega arith) (pointers-rise d), pointer-end d, le-ltb (16 * rasterOf d) (allColumns d) (raster-holds d))
 
-  has-dummy : noDummy (headerWritten d) (entryWritten d (codeCount d)) ≡ false
+  has-dummy : noDummy (viewWritten d .header) (entryWritten d (codeCount d)) ≡ false
   unfolding noDummy present codeCount
   has-dummy =
       let narrow = max-width-small d s in
       rw (format-kerned d, entry-dummy d, ne-eqb (maxWidth d) 0xFFFF (λ e. omega arith))
 
-  tables-accepted : tableNumber (headerWritten d) (fallsFrom 0 (pointersWritten d)) (entryWritten d (codeCount d)) ≡ 0
+  tables-accepted : tableNumber (viewWritten d) (fallsFrom 0 (pointersWritten d)) (entryWritten d (codeCount d)) ≡ 0
   unfolding tableNumber firstOf
   tables-accepted = rw (good-pointers, has-dummy)
 
   pub written-accepted : fontNumber (fileOf d) ≡ 0
-  unfolding fontNumber orElse codeCount
-  written-accepted = rw (header-read d, file-length d, pointers-read d, widths-read d, header-accepted, tables-accepted)
+  unfolding fontNumber numberBy orElse codeCount
+  written-accepted = rw (view-read d, file-length d, pointers-read d, widths-read d, head-accepted, tables-accepted)
 
   pub written-font : accepted (fileOf d) ≡ true
   unfolding accepted
@@ -155,7 +156,7 @@ module _ (d : Drawing) (s : Sound d) (c : ℕ) (h : c < 256) (there : d .present
       let own = own-columns d c there in
       rw (pointer-at d (k + 1) (omega arith), pointer-at d k (omega arith)) (omega arith)
 
-  own-exists : exists (headerWritten d) (entryWritten d k) c ≡ true
+  own-exists : exists (viewWritten d .header) (entryWritten d k) c ≡ true
   unfolding exists present
   own-exists =
       let small = entry-small d s c h there in
@@ -165,7 +166,7 @@ module _ (d : Drawing) (s : Sound d) (c : ℕ) (h : c < 256) (there : d .present
   unfolding faceOf faceFrom glyphFrom glyphBy shown leftOf advanceOf bitmapAt fbbdy
   written-glyph =
       let less = in-tables d c there h in
-      rw (header-read d, pointers-read d, widths-read d, own-exists, format-kerned d)
+      rw (view-read d, pointers-read d, widths-read d, own-exists, format-kerned d)
       (λ i. record {
         bitmap = 13;
         raster = rasterOf d;
@@ -192,19 +193,19 @@ module _ (d : Drawing) (s : Sound d) where
   -- every other code: one that is past 255, or is not there
   module _ (c : ℕ) (none : c < 256 → d .present c ≡ false) where
     -- it lies outside min to max, or its entry says that it is absent
-    absent-entry : minCode d ≤ c → c ≤ maxCode d → present (headerWritten d) (entryWritten d (c - minCode d)) ≡ false
+    absent-entry : minCode d ≤ c → c ≤ maxCode d → present (viewWritten d .header) (entryWritten d (c - minCode d)) ≡ false
     unfolding present codeCount
     absent-entry from upto =
         let small = max-small d s in
         let code : minCode d + (c - minCode d) ≡ c = omega arith in
         rw (format-kerned d, entry-at d (c - minCode d) (omega arith), code, none (omega arith))
 
-    not-there : exists (headerWritten d) (entryWritten d (c - minCode d)) c ≡ false
+    not-there : exists (viewWritten d .header) (entryWritten d (c - minCode d)) c ≡ false
     unfolding exists
     not-there = within-or-not (leb (minCode d) c) refl (leb c (maxCode d)) refl
       where
         within-or-not : (p : Bool) → leb (minCode d) c ≡ p → (q : Bool) → leb c (maxCode d) ≡ q
-            → (p && q && present (headerWritten d) (entryWritten d (c - minCode d))) ≡ false
+            → (p && q && present (viewWritten d .header) (entryWritten d (c - minCode d))) ≡ false
         within-or-not false from q upto = refl
         within-or-not true from false upto = refl
         within-or-not true from true upto = absent-entry (leb-true (minCode d) c from) (leb-true c (maxCode d) upto)
@@ -212,7 +213,7 @@ module _ (d : Drawing) (s : Sound d) where
     pub written-dummy : faceOf (fileOf d) .glyph c ≡ dummyGlyph d
     unfolding faceOf faceFrom glyphFrom glyphBy shown leftOf advanceOf bitmapAt fbbdy codeCount
     written-dummy =
-        rw (header-read d, pointers-read d, widths-read d, not-there, format-kerned d)
+        rw (view-read d, pointers-read d, widths-read d, not-there, format-kerned d)
         (λ i. record {
           bitmap = 13;
           raster = rasterOf d;

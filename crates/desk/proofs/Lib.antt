@@ -1,2 +1,2 @@
-mod Calls
+pub mod Words
 pub mod Outcomes

@@ -1,17 +1,22 @@
 -- The desk's calls, and what the functions for C answer: "The desk firmware is in C and hands font and label as bytes; it checks and
 -- measures that way."
-use Prim.Native.Nat.{ℕ}
+use Prim.Native.Nat.{ℕ, _/_}
 use mathlib.Core.Bool.{cond}
-use mathlib.Core.List.{List}
+use mathlib.Core.List.{List, [], _∷_}
+use lib.Dec.{ltb, eqb}
 use lib.IntN.{ℤ}
-use Rattle.words.specs.Word.{wordsOf, oddBytes}
+use lib.ListN.{length}
+use Rattle.words.specs.Word.{word, wordsOf, oddBytes, over}
+use Rattle.words.specs.Refusal.{firstOf}
 use Rattle.fonts.specs.Reading.{fontNumber}
 use Rattle.convert.specs.declared.Conversion.{Conversion}
 use Rattle.convert.specs.Conversion.{conversionNumber, wordsWritten}
-use Rattle.paint.specs.declared.Shape.{Shape}
 use Rattle.paint.specs.declared.Reply.{Reply}
 use Rattle.paint.specs.declared.Reply.the-variants.{Refused}
-use Rattle.paint.specs.Label.{measureOf, replyNumber, replyPen, replySubstitutes}
+use Rattle.paint.specs.Label.{Call, callOf, measureOf, replyNumber, replyPen, replySubstitutes}
+use Rattle.paint.specs.Sheet.{Sheet}
+use Rattle.sheets.specs.Sheet.{gatherAfter}
+use Rattle.desk.specs.declared.Call.{Call as Handed}
 use Rattle.desk.specs.declared.Answer.{Answer}
 use Rattle.desk.specs.declared.Written.{Written}
 
@@ -20,11 +25,15 @@ unfoldable pub deskNumber : List ℕ → ℕ
 deskNumber bytes = cond (oddBytes bytes) 14 (fontNumber (wordsOf bytes))
 
 unfoldable pub deskMeasure : List ℕ → ℤ → List ℕ → Reply
-deskMeasure bytes x label = cond (oddBytes bytes) (Refused 14) (measureOf (wordsOf bytes) x label)
+deskMeasure bytes x text = cond (oddBytes bytes) (Refused 14) (measureOf (wordsOf bytes) x text)
 
--- R, H and W
-abbrev pub shapeOf : ℕ → ℕ → ℕ → Shape
-shapeOf rowwords rows width = record { rowwords = rowwords; rows = rows; width = width }
+-- a label call, by the struct that C hands; its shape stands apart
+abbrev pub callFrom : List ℕ → Handed → List ℕ → Call
+callFrom font handed text = callOf font (handed .label) text
+
+-- a sheet with such a call gathered on it
+abbrev pub gatheredBy : Handed → List ℕ → List ℕ → Sheet → Sheet
+gatheredBy handed font text sheet = gatherAfter (handed .shape) (callFrom font handed text) sheet
 
 -- "returns its number, pen 0, substitutes 0, words written 0": the paper's number and values, as C has them
 abbrev pub answerOf : Reply → Answer
@@ -32,3 +41,16 @@ answerOf reply = record { number = replyNumber reply; pen = replyPen reply; subs
 
 abbrev pub writtenOf : Conversion → Written
 writtenOf conversion = record { number = conversionNumber conversion; words = wordsWritten conversion }
+
+-- Words of bytes: 14, then 27, "output slice too short"; else as many words as the bytes spell, over the first words of the output
+unfoldable pub wordsNumber : List ℕ → ℕ → ℕ
+wordsNumber bytes room = firstOf ((oddBytes bytes, 14) ∷ (ltb room (length bytes / 2), 27) ∷ [])
+
+unfoldable pub wordsAnswer : List ℕ → ℕ → Written
+wordsAnswer bytes room =
+    let number = wordsNumber bytes room in
+    record { number = number; words = cond (eqb number 0) (length bytes / 2) 0 }
+
+unfoldable pub wordsAfter : List ℕ → List ℕ → List ℕ
+wordsAfter bytes out =
+    cond (eqb (wordsNumber bytes (length out)) 0) (over (length bytes / 2) (word (wordsOf bytes)) out) out

@@ -1,16 +1,27 @@
 // The label software for C programs: `include/pailradish.h` declares these functions, and `rt staticlib desk` makes their archive.
 // The desk's own two calls are handed bytes; the others are thin over the functions of their names.
 use convert::Conversion;
+use paint::Label;
 use paint::Reply;
 use paint::Shape;
 ghost use mathlib.Core.Path.{_≡_};
 ghost use mathlib.Core.List.{[], _∷_};
 ghost use lib.ListN.{length};
+ghost use Rattle.words.specs.Lent.{given, after};
 ghost use Rattle.words.specs.Word.{oddBytes};
 ghost use Rattle.convert.specs.Conversion.{conversionOf, outputAfter};
-ghost use Rattle.paint.specs.Label.{callOf, replyOf, paintAfter};
-ghost use Rattle.sheets.specs.Sheet.{sheetOf, freshNumber, freshAfter, joinNumber, joinAfter, applyNumber, applyAfter, gatherReply, gatherAfter};
-ghost use Rattle.desk.specs.Desk.{deskNumber, deskMeasure, shapeOf, answerOf, writtenOf};
+ghost use Rattle.paint.specs.Sheet.{sheetOf};
+ghost use Rattle.paint.specs.Label.{replyOf, paintAfter};
+ghost use Rattle.sheets.specs.Sheet.{freshNumber, freshAfter, joinNumber, joinAfter, applyNumber, applyAfter, gatherReply};
+ghost use Rattle.desk.specs.Desk.{deskNumber, deskMeasure, callFrom, gatheredBy, answerOf, writtenOf};
+ghost use Rattle.desk.specs.Desk.{wordsNumber, wordsAnswer, wordsAfter};
+
+// One label call as C hands it: on which panel, and where.
+#[repr(C)]
+pub struct Call {
+    pub shape: Shape,
+    pub label: Label,
+}
 
 // What measuring, painting and gathering answer. Beside the number of a refusal stand zeros.
 #[repr(C)]
@@ -20,7 +31,7 @@ pub struct Answer {
     pub substitutes: u32,
 }
 
-// What converting answers.
+// What converting, and making words of bytes, answer.
 #[repr(C)]
 pub struct Written {
     pub number: u32,
@@ -31,10 +42,10 @@ fn answer_of(reply: Reply) -> Answer
     ensures { λ r. ⌜ r ≡ answerOf reply ⌝ }
 {
     match reply {
-        Reply::Done { pen, substitutes } => Answer {
+        Reply::Done(finish) => Answer {
             number: 0,
-            pen,
-            substitutes,
+            pen: finish.pen,
+            substitutes: finish.substitutes,
         },
         Reply::Refused(number) => Answer {
             number,
@@ -53,18 +64,8 @@ fn written_of(conversion: Conversion) -> Written
     }
 }
 
-fn shape_of(rowwords: u32, rows: u32, width: u32) -> Shape
-    ensures { λ r. ⌜ r ≡ shapeOf rowwords rows width ⌝ }
-{
-    Shape {
-        rowwords,
-        rows,
-        width,
-    }
-}
-
 fn odd(bytes: &[u8]) -> bool
-    ensures { λ r. ⌜ r ≡ oddBytes (now (bytes .entry)) ⌝ }
+    ensures { λ r. ⌜ r ≡ oddBytes (given bytes) ⌝ }
 {
     bytes.len() % 2 == 1
 }
@@ -72,7 +73,7 @@ fn odd(bytes: &[u8]) -> bool
 // Checks the bytes of a font file.
 #[no_mangle]
 pub extern "C" fn pailradish_check(font: &[u8]) -> u32
-    ensures { λ r. ⌜ r ≡ deskNumber (now (font .entry)) ⌝ }
+    ensures { λ r. ⌜ r ≡ deskNumber (given font) ⌝ }
 {
     if odd(font) {
         return 14;
@@ -80,117 +81,110 @@ pub extern "C" fn pailradish_check(font: &[u8]) -> u32
     fontbytes::number(font)
 }
 
-fn measured(font: &[u8], x: i32, label: &[u8]) -> Reply
-    ensures { λ r. ⌜ r ≡ deskMeasure (now (font .entry)) x (now (label .entry)) ⌝ }
+fn measured(font: &[u8], x: i32, text: &[u8]) -> Reply
+    ensures { λ r. ⌜ r ≡ deskMeasure (given font) x (given text) ⌝ }
 {
     if odd(font) {
         return Reply::Refused(14);
     }
-    paint::measure_bytes(font, x, label)
+    paint::measure_bytes(font, x, text)
 }
 
 // Measures a label with the font in these bytes.
 #[no_mangle]
-pub extern "C" fn pailradish_measure(font: &[u8], x: i32, label: &[u8]) -> Answer
-    ensures { λ r. ⌜ r ≡ answerOf (deskMeasure (now (font .entry)) x (now (label .entry))) ⌝ }
+pub extern "C" fn pailradish_measure(font: &[u8], x: i32, text: &[u8]) -> Answer
+    ensures { λ r. ⌜ r ≡ answerOf (deskMeasure (given font) x (given text)) ⌝ }
 {
-    answer_of(measured(font, x, label))
+    answer_of(measured(font, x, text))
+}
+
+fn words_number(bytes: &[u8], room: usize) -> u32
+    ensures { λ r. ⌜ r ≡ wordsNumber (given bytes) room ⌝ }
+{
+    if odd(bytes) {
+        return 14;
+    }
+    if room < bytes.len() / 2 {
+        return 27;
+    }
+    0
+}
+
+// The words that bytes spell, high byte first: the step from a file to what painting takes.
+#[no_mangle]
+pub extern "C" fn pailradish_words(bytes: &[u8], out: &mut [u16]) -> Written
+    ensures { λ r. ⌜ r ≡ wordsAnswer (given bytes) (length (given out)) ⌝ }
+    ensures out { λ r. ⌜ after out ≡ wordsAfter (given bytes) (given out) ⌝ }
+{
+    let number = words_number(bytes, out.len());
+    if number != 0 {
+        return Written { number, words: 0 };
+    }
+    Written {
+        number: 0,
+        words: words::from_bytes(bytes, out),
+    }
 }
 
 #[no_mangle]
-pub extern "C" fn pailradish_paint(
-    font: &[u16],
-    rowwords: u32,
-    rows: u32,
-    width: u32,
-    strip: u32,
-    x: i32,
-    y: i32,
-    mode: u32,
-    label: &[u8],
-    panel: &mut [u16],
-) -> Answer
-    ensures { λ r. ⌜ r ≡ answerOf (replyOf (shapeOf rowwords rows width) (length (now (panel .entry)) ∷ []) (callOf (now (font .entry)) strip x y mode (now (label .entry)))) ⌝ }
-    ensures panel { λ r. ⌜ now (panel .exit) ≡ paintAfter (shapeOf rowwords rows width) (callOf (now (font .entry)) strip x y mode (now (label .entry))) (now (panel .entry)) ⌝ }
+pub extern "C" fn pailradish_paint(font: &[u16], c: Call, text: &[u8], panel: &mut [u16]) -> Answer
+    ensures { λ r. ⌜ r ≡ answerOf (replyOf (c .shape) (length (given panel) ∷ []) (callFrom (given font) c (given text))) ⌝ }
+    ensures panel { λ r. ⌜ after panel ≡ paintAfter (c .shape) (callFrom (given font) c (given text)) (given panel) ⌝ }
 {
-    let s = shape_of(rowwords, rows, width);
-    answer_of(paint::paint(font, s, strip, x, y, mode, label, panel))
+    answer_of(paint::paint(font, c.shape, c.label, text, panel))
 }
 
 #[no_mangle]
-pub extern "C" fn pailradish_fresh(
-    rowwords: u32,
-    rows: u32,
-    width: u32,
-    keep: &mut [u16],
-    flip: &mut [u16],
-) -> u32
-    ensures { λ r. ⌜ r ≡ freshNumber (shapeOf rowwords rows width) (sheetOf (now (keep .entry)) (now (flip .entry))) ⌝ }
-    ensures keep { λ r. ⌜ now (keep .exit) ≡ freshAfter (shapeOf rowwords rows width) (sheetOf (now (keep .entry)) (now (flip .entry))) .keep ⌝ }
-    ensures flip { λ r. ⌜ now (flip .exit) ≡ freshAfter (shapeOf rowwords rows width) (sheetOf (now (keep .entry)) (now (flip .entry))) .flip ⌝ }
+pub extern "C" fn pailradish_fresh(s: Shape, keep: &mut [u16], flip: &mut [u16]) -> u32
+    ensures { λ r. ⌜ r ≡ freshNumber s (sheetOf (given keep) (given flip)) ⌝ }
+    ensures keep { λ r. ⌜ after keep ≡ freshAfter s (sheetOf (given keep) (given flip)) .keep ⌝ }
+    ensures flip { λ r. ⌜ after flip ≡ freshAfter s (sheetOf (given keep) (given flip)) .flip ⌝ }
 {
-    sheets::fresh(shape_of(rowwords, rows, width), keep, flip)
+    sheets::fresh(s, keep, flip)
 }
 
 #[no_mangle]
 pub extern "C" fn pailradish_gather(
     font: &[u16],
-    rowwords: u32,
-    rows: u32,
-    width: u32,
-    strip: u32,
-    x: i32,
-    y: i32,
-    mode: u32,
-    label: &[u8],
+    c: Call,
+    text: &[u8],
     keep: &mut [u16],
     flip: &mut [u16],
 ) -> Answer
-    ensures { λ r. ⌜ r ≡ answerOf (gatherReply (shapeOf rowwords rows width) (callOf (now (font .entry)) strip x y mode (now (label .entry))) (sheetOf (now (keep .entry)) (now (flip .entry)))) ⌝ }
-    ensures keep { λ r. ⌜ now (keep .exit) ≡ gatherAfter (shapeOf rowwords rows width) (callOf (now (font .entry)) strip x y mode (now (label .entry))) (sheetOf (now (keep .entry)) (now (flip .entry))) .keep ⌝ }
-    ensures flip { λ r. ⌜ now (flip .exit) ≡ gatherAfter (shapeOf rowwords rows width) (callOf (now (font .entry)) strip x y mode (now (label .entry))) (sheetOf (now (keep .entry)) (now (flip .entry))) .flip ⌝ }
+    ensures { λ r. ⌜ r ≡ answerOf (gatherReply (c .shape) (callFrom (given font) c (given text)) (sheetOf (given keep) (given flip))) ⌝ }
+    ensures keep { λ r. ⌜ after keep ≡ gatheredBy c (given font) (given text) (sheetOf (given keep) (given flip)) .keep ⌝ }
+    ensures flip { λ r. ⌜ after flip ≡ gatheredBy c (given font) (given text) (sheetOf (given keep) (given flip)) .flip ⌝ }
 {
-    let s = shape_of(rowwords, rows, width);
-    answer_of(sheets::gather(font, s, strip, x, y, mode, label, keep, flip))
+    answer_of(sheets::gather(font, c.shape, c.label, text, keep, flip))
 }
 
 #[no_mangle]
 pub extern "C" fn pailradish_join(
-    rowwords: u32,
-    rows: u32,
-    width: u32,
+    s: Shape,
     keep: &mut [u16],
     flip: &mut [u16],
-    then_keep: &[u16],
-    then_flip: &[u16],
+    keep2: &[u16],
+    flip2: &[u16],
 ) -> u32
-    ensures { λ r. ⌜ r ≡ joinNumber (shapeOf rowwords rows width) (sheetOf (now (keep .entry)) (now (flip .entry))) (sheetOf (now («then_keep» .entry)) (now («then_flip» .entry))) ⌝ }
-    ensures keep { λ r. ⌜ now (keep .exit) ≡ joinAfter (shapeOf rowwords rows width) (sheetOf (now (keep .entry)) (now (flip .entry))) (sheetOf (now («then_keep» .entry)) (now («then_flip» .entry))) .keep ⌝ }
-    ensures flip { λ r. ⌜ now (flip .exit) ≡ joinAfter (shapeOf rowwords rows width) (sheetOf (now (keep .entry)) (now (flip .entry))) (sheetOf (now («then_keep» .entry)) (now («then_flip» .entry))) .flip ⌝ }
+    ensures { λ r. ⌜ r ≡ joinNumber s (sheetOf (given keep) (given flip)) (sheetOf (given keep2) (given flip2)) ⌝ }
+    ensures keep { λ r. ⌜ after keep ≡ joinAfter s (sheetOf (given keep) (given flip)) (sheetOf (given keep2) (given flip2)) .keep ⌝ }
+    ensures flip { λ r. ⌜ after flip ≡ joinAfter s (sheetOf (given keep) (given flip)) (sheetOf (given keep2) (given flip2)) .flip ⌝ }
 {
-    let s = shape_of(rowwords, rows, width);
-    sheets::join(s, keep, flip, then_keep, then_flip)
+    sheets::join(s, keep, flip, keep2, flip2)
 }
 
 #[no_mangle]
-pub extern "C" fn pailradish_apply(
-    rowwords: u32,
-    rows: u32,
-    width: u32,
-    keep: &[u16],
-    flip: &[u16],
-    panel: &mut [u16],
-) -> u32
-    ensures { λ r. ⌜ r ≡ applyNumber (shapeOf rowwords rows width) (sheetOf (now (keep .entry)) (now (flip .entry))) (now (panel .entry)) ⌝ }
-    ensures panel { λ r. ⌜ now (panel .exit) ≡ applyAfter (shapeOf rowwords rows width) (sheetOf (now (keep .entry)) (now (flip .entry))) (now (panel .entry)) ⌝ }
+pub extern "C" fn pailradish_apply(s: Shape, keep: &[u16], flip: &[u16], panel: &mut [u16]) -> u32
+    ensures { λ r. ⌜ r ≡ applyNumber s (sheetOf (given keep) (given flip)) (given panel) ⌝ }
+    ensures panel { λ r. ⌜ after panel ≡ applyAfter s (sheetOf (given keep) (given flip)) (given panel) ⌝ }
 {
-    sheets::apply(shape_of(rowwords, rows, width), keep, flip, panel)
+    sheets::apply(s, keep, flip, panel)
 }
 
 #[no_mangle]
 pub extern "C" fn pailradish_convert(cu: &[u16], out: &mut [u16]) -> Written
-    ensures { λ r. ⌜ r ≡ writtenOf (conversionOf (now (cu .entry)) (length (now (out .entry)))) ⌝ }
-    ensures out { λ r. ⌜ now (out .exit) ≡ outputAfter (now (cu .entry)) (now (out .entry)) ⌝ }
+    ensures { λ r. ⌜ r ≡ writtenOf (conversionOf (given cu) (length (given out))) ⌝ }
+    ensures out { λ r. ⌜ after out ≡ outputAfter (given cu) (given out) ⌝ }
 {
     written_of(convert::convert(cu, out))
 }

@@ -1,2 +1,3 @@
 pub mod Spelt
+pub mod Stepping
 pub mod Outcomes

@@ -5,25 +5,35 @@ use contract.Lifetimes.{Lfts}
 use denote.Triple.Clauses.{AtExit}
 use borrow.Fn.Kinds.{Dens, resT, endedOf}
 use Rattle.words.proofs.Outcomes.{OneReply}
-use Rattle.fontbytes.proofs.header as header
+use Rattle.fontbytes.proofs.view as view
 use Rattle.fontbytes.proofs.pointers as pointers
 use Rattle.fontbytes.proofs.widths as widths
 use Rattle.fontbytes.proofs.number as number
-use Rattle.fontbytes.proofs.glyph as glyph
+use Rattle.fontbytes.proofs.read as read
+use Rattle.fontbytes.proofs.dummy_advance as dummy-advance
+use Rattle.fontbytes.proofs.step as step
 
-pub header-one : OneReply 1 header.Kinds.ps header.Kinds.r header.Reads.Post
-header-one κs a r o e e′ p q = p ∙ sym q
+pub view-one : OneReply 1 view.Kinds.ps view.Kinds.r view.Reads.Post
+view-one κs a r o e e′ p q = p ∙ sym q
 
-pub pointers-one : (κs : Lfts 1) (a : Dens κs pointers.Kinds.ps) (r o : resT pointers.Kinds.r κs .Denot) (e e′ : AtExit (endedOf 1 pointers.Kinds.ps pointers.Kinds.r) κs)
+pub pointers-one : (κs : Lfts 1) (a : Dens κs pointers.Kinds.ps) (r o : resT pointers.Kinds.r κs .Denot)
+    (e e′ : AtExit (endedOf 1 pointers.Kinds.ps pointers.Kinds.r) κs)
     → pointers.Reads.Post κs a r e → pointers.Reads.Post κs a o e′ → now r ≡ now o
 pointers-one κs a r o e e′ p q = p ∙ sym q
 
-pub widths-one : (κs : Lfts 1) (a : Dens κs widths.Kinds.ps) (r o : resT widths.Kinds.r κs .Denot) (e e′ : AtExit (endedOf 1 widths.Kinds.ps widths.Kinds.r) κs)
+pub widths-one : (κs : Lfts 1) (a : Dens κs widths.Kinds.ps) (r o : resT widths.Kinds.r κs .Denot)
+    (e e′ : AtExit (endedOf 1 widths.Kinds.ps widths.Kinds.r) κs)
     → widths.Reads.Post κs a r e → widths.Reads.Post κs a o e′ → now r ≡ now o
 widths-one κs a r o e e′ p q = p ∙ sym q
 
 pub number-one : OneReply 1 number.Kinds.ps number.Kinds.r number.Reads.Post
 number-one κs a r o e e′ p q = p ∙ sym q
 
-pub glyph-one : OneReply 2 glyph.Kinds.ps glyph.Kinds.r glyph.Reads.Post
-glyph-one κs a r o e e′ p q = p ∙ sym q
+pub read-one : OneReply 1 read.Kinds.ps read.Kinds.r read.Reads.Post
+read-one κs a r o e e′ p q = p ∙ sym q
+
+pub dummy-advance-one : OneReply 2 dummy-advance.Kinds.ps dummy-advance.Kinds.r dummy-advance.Reads.Post
+dummy-advance-one κs a r o e e′ p q = p ∙ sym q
+
+pub step-one : OneReply 2 step.Kinds.ps step.Kinds.r step.Reads.Post
+step-one κs a r o e e′ p q = p ∙ sym q

@@ -1,4 +1,6 @@
 pub mod Compute
 pub mod Falling
 pub mod Dots
+pub mod Readings
+pub mod Steps
 pub mod Outcomes

@@ -1,14 +1,16 @@
 -- What a font shows for a code: the paper's "The Strike files", its second half. Painting knows a font by its face alone.
 use Prim.Native.Nat.{ℕ, _+_, _-_, _*_, _/_, _%_}
-use mathlib.Core.Bool.{Bool, cond, not, _&&_}
+use mathlib.Core.Bool.{Bool, true, false, cond, not, _&&_}
 use mathlib.Core.List.{List, []}
 use lib.Dec.{ltb, leb}
 use lib.ListN.{take, drop}
 use Rattle.words.specs.Word.{word, bitOf, wordOf}
 use Rattle.fonts.specs.declared.Header.{Header}
+use Rattle.fonts.specs.declared.View.{View}
+use Rattle.fonts.specs.declared.Step.{Step}
 use Rattle.fonts.specs.declared.Entry.{Entry}
 use Rattle.fonts.specs.declared.Glyph.{Glyph}
-use Rattle.fonts.specs.Strike.{headerOf, codes, height, bitmapAt, pointersOf, widthsOf}
+use Rattle.fonts.specs.Strike.{viewOf, codes, height, bitmapAt, pointersOf, widthsOf}
 use Rattle.fonts.specs.Entry.{entryAt, present, columnsOf, leftOf, advanceOf}
 use Rattle.fonts.specs.Reading.{accepted}
 
@@ -21,24 +23,41 @@ unfoldable pub shown : Header → Entry → Entry → ℕ → Entry
 shown h own dummy c = cond (exists h own c) own dummy
 
 -- what is drawn for a code, by its own entry and the dummy's; the dummy is "counted as one substitute"
-unfoldable pub glyphBy : Header → Entry → Entry → ℕ → Glyph
-glyphBy h own dummy c =
+unfoldable pub glyphBy : View → Entry → Entry → ℕ → Glyph
+glyphBy v own dummy c =
+    let h = v .header in
     let e = shown h own dummy c in
     record {
       bitmap = bitmapAt h;
-      raster = h .raster;
+      raster = v .body .raster;
       first = e .left;
       columns = columnsOf e;
-      ascent = h .ascent;
-      height = height h;
+      ascent = v .body .ascent;
+      height = height (v .body);
       place = leftOf h e;
       advance = advanceOf h e;
       substitute = not (exists h own c);
     }
 
--- "Code max + 1 is the dummy": its entry is the last, n places past min's
-unfoldable pub glyphFrom : Header → List ℕ → List ℕ → ℕ → Glyph
-glyphFrom h pointers widths c = glyphBy h (entryAt pointers widths (c - h .min)) (entryAt pointers widths (codes h)) c
+-- what the two tables of a font say of a code, and of the dummy: "Code max + 1 is the dummy", its entry is the last, n places past min's
+abbrev pub ownEntry : View → List ℕ → ℕ → Entry
+ownEntry v ws c = entryAt (pointersOf v ws) (widthsOf v ws) (c - v .header .min)
+
+abbrev pub dummyEntry : View → List ℕ → Entry
+dummyEntry v ws = entryAt (pointersOf v ws) (widthsOf v ws) (codes (v .header))
+
+unfoldable pub glyphFrom : View → List ℕ → ℕ → Glyph
+glyphFrom v ws c = glyphBy v (ownEntry v ws c) (dummyEntry v ws) c
+
+-- the step of the pen over what is drawn for a code, by its own entry and the dummy's advance
+unfoldable pub stepBy : Header → Entry → ℕ → ℕ → Step
+stepBy h own dummy c =
+    cond (exists h own c)
+    (record { advance = advanceOf h own; substitute = false })
+    (record { advance = dummy; substitute = true })
+
+abbrev pub stepOf : Glyph → Step
+stepOf g = record { advance = g .advance; substitute = g .substitute }
 
 -- the dot of a picture in row r, column j, the top row and the left column being 0; no dot lies past the picture.
 -- "the bitmap, raster × height words, top row first"
@@ -57,15 +76,17 @@ pub record Face : Type 0 where
   pub glyph : ℕ → Glyph
   pub dot : Glyph → ℕ → ℕ → ℕ
 
-unfoldable pub faceFrom : Header → List ℕ → List ℕ → List ℕ → Face
-faceFrom h pointers widths ws = record { glyph = glyphFrom h pointers widths; dot = dotOf ws }
+-- by the view of a font that has been read, and of a file
+unfoldable pub faceFrom : View → List ℕ → Face
+faceFrom v ws = record { glyph = glyphFrom v ws; dot = dotOf ws }
 
 unfoldable pub faceOf : List ℕ → Face
-faceOf ws = let h = headerOf ws in faceFrom h (pointersOf h ws) (widthsOf h ws) ws
+faceOf ws = faceFrom (viewOf ws) ws
 
 -- "One row of a strike may be asked for: it is that part of the caller's own file. A refused font or a row at or past height
 -- gives the empty part"
 unfoldable pub rowOf : List ℕ → ℕ → List ℕ
 rowOf ws r =
-    let h = headerOf ws in
-    cond (accepted ws && ltb r (height h)) (take (h .raster) (drop (bitmapAt h + r * h .raster) ws)) []
+    let v = viewOf ws in
+    let raster = v .body .raster in
+    cond (accepted ws && ltb r (height (v .body))) (take raster (drop (bitmapAt (v .header) + r * raster) ws)) []

@@ -1,5 +1,5 @@
 -- What a font file is refused for: the paper's "Numbers returned", 1 to 7.
-use Prim.Native.Nat.{ℕ, _+_, _*_, _%_}
+use Prim.Native.Nat.{ℕ, _*_, _%_}
 use mathlib.Core.Bool.{Bool, false, cond, not, _&&_, _||_}
 use mathlib.Core.List.{List, [], _∷_}
 use lib.Dec.{ltb, eqb}
@@ -8,10 +8,12 @@ use Rattle.words.specs.Word.{bitOf}
 use Rattle.words.specs.Refusal.{firstOf, orElse, notWithin}
 use Rattle.words.specs.Place.{placeOfWord}
 use Rattle.fonts.specs.declared.Header.{Header}
+use Rattle.fonts.specs.declared.Body.{Body}
+use Rattle.fonts.specs.declared.View.{View}
 use Rattle.fonts.specs.declared.Entry.{Entry}
 use Rattle.fonts.specs.declared.Reading.{Reading}
 use Rattle.fonts.specs.declared.Reading.the-variants.{Accepted, Refused}
-use Rattle.fonts.specs.Strike.{headerOf, kerned, codes, height, pointersOf, widthsOf, bodySum, fileSum}
+use Rattle.fonts.specs.Strike.{viewOf, kerned, codes, height, pointersOf, widthsOf, bodySum, fileSum}
 use Rattle.fonts.specs.Entry.{entryAt, present}
 
 -- 1: "fewer than 9 words"
@@ -34,13 +36,16 @@ badCodes h = ltb (h .max) (h .min) || ltb 255 (h .max)
 unfoldable pub badBox : Header → Bool
 badBox h = kerned h && notWithin 1793 2303 (placeOfWord (h .fbbox))
 
--- 4: "height not 1..256, raster not 1..4096, xoffset not 0", or the box
-unfoldable pub badSizes : Header → Bool
-badSizes h = notWithin 1 256 (height h) || notWithin 1 4096 (h .raster) || ltb 0 (h .xoffset) || badBox h
+-- 4: "height not 1..256, raster not 1..4096, xoffset not 0"
+unfoldable pub badSizes : Body → Bool
+badSizes b = notWithin 1 256 (height b) || notWithin 1 4096 (b .raster) || ltb 0 (b .xoffset)
 
 -- 5: "length word or file length differs from the sums above"
-unfoldable pub badLength : Header → ℕ → Bool
-badLength h count = not (eqb (h .bodywords) (bodySum h)) || not (eqb count (fileSum h))
+unfoldable pub lengthsDiffer : ℕ → ℕ → ℕ → ℕ → Bool
+lengthsDiffer words body count file = not (eqb words body) || not (eqb count file)
+
+abbrev pub badLength : View → ℕ → Bool
+badLength v count = lengthsDiffer (v .body .words) (bodySum v) count (fileSum v)
 
 -- some pointer is smaller than the one before, and the first than `before`
 unfoldable pub fallsFrom : ℕ → List ℕ → Bool
@@ -48,43 +53,48 @@ fallsFrom before [] = false
 fallsFrom before (p ∷ pointers) = ltb p before || fallsFrom p pointers
 
 -- 6: "a pointer smaller than the one before, or the last over 16 × raster"; the last is where the dummy's picture ends
-unfoldable pub badPointers : Header → Bool → Entry → Bool
-badPointers h falls dummy = falls || ltb (16 * h .raster) (dummy .right)
+unfoldable pub badPointers : Body → Bool → Entry → Bool
+badPointers b falls dummy = falls || ltb (16 * b .raster) (dummy .right)
 
 -- 7: "no dummy: kerned entry FFFF; plain, no columns", which is how a code doesn't exist
 unfoldable pub noDummy : Header → Entry → Bool
 noDummy h dummy = not (present h dummy)
 
--- 1 to 5, which the header and the number of words decide
-unfoldable pub headerNumber : Header → ℕ → ℕ
-headerNumber h count =
+-- 1 to 5, which the words before the bitmap and the number of words decide
+unfoldable pub headNumber : View → ℕ → ℕ
+headNumber v count =
+    let h = v .header in
     firstOf
     ((tooShort count, 1)
     ∷ (badFormat h, 2)
     ∷ (kernedTooShort h count, 1)
     ∷ (badCodes h, 3)
-    ∷ (badSizes h, 4)
-    ∷ (badLength h count, 5)
+    ∷ (badBox h, 4)
+    ∷ (badSizes (v .body), 4)
+    ∷ (badLength v count, 5)
     ∷ [])
 
 -- 6 and 7, by whether the pointers fall and by the dummy's entry
-unfoldable pub tableNumber : Header → Bool → Entry → ℕ
-tableNumber h falls dummy = firstOf ((badPointers h falls dummy, 6) ∷ (noDummy h dummy, 7) ∷ [])
+unfoldable pub tableNumber : View → Bool → Entry → ℕ
+tableNumber v falls dummy = firstOf ((badPointers (v .body) falls dummy, 6) ∷ (noDummy (v .header) dummy, 7) ∷ [])
 
--- the number of a font file's refusal, 0 where it is accepted
+-- the number of a font file's refusal, 0 where it is accepted: by the view of it, and the file's own
+unfoldable pub numberBy : View → List ℕ → ℕ
+numberBy v ws =
+    let pointers = pointersOf v ws in
+    let dummy = entryAt pointers (widthsOf v ws) (codes (v .header)) in
+    orElse (headNumber v (length ws)) (tableNumber v (fallsFrom 0 pointers) dummy)
+
 unfoldable pub fontNumber : List ℕ → ℕ
-fontNumber ws =
-    let h = headerOf ws in
-    let pointers = pointersOf h ws in
-    orElse (headerNumber h (length ws)) (tableNumber h (fallsFrom 0 pointers) (entryAt pointers (widthsOf h ws) (codes h)))
+fontNumber ws = numberBy (viewOf ws) ws
 
 unfoldable pub accepted : List ℕ → Bool
 accepted ws = eqb (fontNumber ws) 0
 
 unfoldable pub readingOf : List ℕ → Reading
-readingOf ws = cond (accepted ws) (Accepted (headerOf ws)) (Refused (fontNumber ws))
+readingOf ws = cond (accepted ws) (Accepted (viewOf ws)) (Refused (fontNumber ws))
 
 -- the paper's number for each answer
 abbrev pub readingNumber : Reading → ℕ
-readingNumber (Accepted h) = 0
+readingNumber (Accepted v) = 0
 readingNumber (Refused number) = number

@@ -1,29 +1,41 @@
 // Reading PlainStrike and KernedStrike files: what a file is refused for, and what it shows for a code.
 ghost use mathlib.Core.Path.{_≡_};
-ghost use Prim.Native.Nat.{_-_, _≤_};
-ghost use mathlib.Core.Bool.{cond};
-ghost use Rattle.words.specs.Word.{word};
-ghost use Rattle.fonts.specs.Strike.{kernedFormat, bodyAt, headerOf, kerned, codes, height, bitmapAt, bitmapWords, pointersAt, pointersOf, widthsOf, bodySum, fileSum};
+ghost use Prim.Native.Nat.{_+_, _-_, _≤_};
+ghost use Rattle.fonts.specs.Strike.{kernedFormat, bodyAt, headerBy, headerOf, bodyOf, viewOf, kerned, codes};
+ghost use Rattle.fonts.specs.Strike.{height, tallest, largest};
+ghost use Rattle.fonts.specs.Strike.{bitmapAt, bitmapWords, pointersAt, pointersOf, widthsOf, bodySum, fileSum};
 ghost use Rattle.fonts.specs.Entry.{entryAt, present, columnsOf, leftOf, advanceOf};
-ghost use Rattle.fonts.specs.Reading.{badFormat, kernedTooShort, badCodes, badBox, badSizes, badLength, fallsFrom, badPointers, noDummy, headerNumber, tableNumber, fontNumber, readingOf};
-ghost use Rattle.fonts.specs.Face.{exists, shown, glyphBy, glyphFrom, dotOf, dotsOf, rowOf};
+ghost use Rattle.fonts.specs.Reading.{badFormat, kernedTooShort, badCodes, badBox, badSizes, lengthsDiffer};
+ghost use Rattle.fonts.specs.Reading.{fallsFrom, badPointers, noDummy};
+ghost use Rattle.fonts.specs.Reading.{headNumber, tableNumber, numberBy, fontNumber, readingOf};
+ghost use Rattle.fonts.specs.Face.{exists, shown, glyphBy, glyphFrom, stepBy, stepOf, dotOf, dotsOf, rowOf};
 
-// The words that stand before a strike's bitmap and that the reader looks at. A plain file has no box, and its fbbox is 0.
+// The words at the front of a font file that the reader looks at. A plain file has no box, and its fbbox is 0.
 pub struct Header {
     pub format: u16,
     pub min: u16,
     pub max: u16,
     pub fbbox: u16,
-    pub bodywords: u16,
+}
+
+// The head of a strike's body, which stands before the bitmap.
+pub struct Body {
+    pub words: u16,
     pub ascent: u16,
     pub descent: u16,
     pub xoffset: u16,
     pub raster: u16,
 }
 
+// What finds every glyph of a font that has been read.
+pub struct View {
+    pub header: Header,
+    pub body: Body,
+}
+
 // What reading a font answers.
 pub enum Reading {
-    Accepted(Header),
+    Accepted(View),
     Refused(u32),
 }
 
@@ -32,6 +44,12 @@ pub struct Entry {
     pub left: u16,
     pub right: u16,
     pub width: u16,
+}
+
+// How a character moves the pen, and whether the dummy stood in for its code.
+pub struct Step {
+    pub advance: u16,
+    pub substitute: bool,
 }
 
 // What a font shows for a code.
@@ -59,46 +77,50 @@ fn kerned_format(format: u16) -> bool
     words::bit(format, 3) == 1
 }
 
-fn body_at(format: u16) -> usize
-    ensures { λ r. ⌜ r ≡ bodyAt format ⌝ }
-    ensures small { λ r. ⌜ r ≤ 8 ⌝ }
-{
-    if kerned_format(format) {
-        return 8;
-    }
-    4
-}
-
-// The box word, where there is one.
-fn fbbox_of(font: &[u16], format: u16) -> u16
-    ensures { λ r. ⌜ r ≡ cond (kernedFormat format) (word (now (font .entry)) 4) 0 ⌝ }
-{
-    if kerned_format(format) {
-        return words::word_at(font, 4);
-    }
-    0
-}
-
 impl Header {
-    pub fn of(font: &[u16]) -> Header
-        ensures { λ r. ⌜ r ≡ headerOf (now (font .entry)) ⌝ }
+    // By words 0, 1, 2 and 4 of a file, the last of which is the box word only in a kerned one.
+    pub fn by(format: u16, min: u16, max: u16, fifth: u16) -> Header
+        ensures { λ r. ⌜ r ≡ headerBy format min max fifth ⌝ }
     {
-        let format = words::word_at(font, 0);
-        let body = body_at(format);
+        if kerned_format(format) {
+            return Header {
+                format,
+                min,
+                max,
+                fbbox: fifth,
+            };
+        }
         Header {
             format,
-            min: words::word_at(font, 1),
-            max: words::word_at(font, 2),
-            fbbox: fbbox_of(font, format),
-            bodywords: words::word_at(font, body),
-            ascent: words::word_at(font, body + 1),
-            descent: words::word_at(font, body + 2),
-            xoffset: words::word_at(font, body + 3),
-            raster: words::word_at(font, body + 4),
+            min,
+            max,
+            fbbox: 0,
         }
     }
 
-    fn kerned(self) -> bool
+    fn of(font: &[u16]) -> Header
+        ensures { λ r. ⌜ r ≡ headerOf (now (font .entry)) ⌝ }
+    {
+        Header::by(
+            words::word_at(font, 0),
+            words::word_at(font, 1),
+            words::word_at(font, 2),
+            words::word_at(font, 4),
+        )
+    }
+
+    // Where the body begins.
+    pub fn body_at(self) -> usize
+        ensures { λ r. ⌜ r ≡ bodyAt self ⌝ }
+        ensures small { λ r. ⌜ r ≤ 8 ⌝ }
+    {
+        if self.kerned() {
+            return 8;
+        }
+        4
+    }
+
+    pub fn kerned(self) -> bool
         ensures { λ r. ⌜ r ≡ kerned self ⌝ }
     {
         kerned_format(self.format)
@@ -120,52 +142,79 @@ impl Header {
     {
         words::past(code as usize, self.min as usize)
     }
+}
+
+impl Body {
+    // The head of the body that begins with word `at`.
+    fn of(font: &[u16], at: usize) -> Body
+        requires { ⌜ at ≤ 8 ⌝ }
+        ensures { λ r. ⌜ r ≡ bodyOf (now (font .entry)) at ⌝ }
+    {
+        Body {
+            words: words::word_at(font, at),
+            ascent: words::word_at(font, at + 1),
+            descent: words::word_at(font, at + 2),
+            xoffset: words::word_at(font, at + 3),
+            raster: words::word_at(font, at + 4),
+        }
+    }
 
     fn height(self) -> usize
         ensures { λ r. ⌜ r ≡ height self ⌝ }
+        ensures small { λ r. ⌜ r ≤ tallest ⌝ }
     {
         self.ascent as usize + self.descent as usize
     }
 
+    fn bitmap_words(self) -> usize
+        ensures { λ r. ⌜ r ≡ bitmapWords self ⌝ }
+        ensures small { λ r. ⌜ r ≤ largest ⌝ }
+    {
+        self.raster as usize * self.height()
+    }
+}
+
+impl View {
+    pub fn of(font: &[u16]) -> View
+        ensures { λ r. ⌜ r ≡ viewOf (now (font .entry)) ⌝ }
+    {
+        let header = Header::of(font);
+        let body = Body::of(font, header.body_at());
+        View { header, body }
+    }
+
     fn bitmap_at(self) -> usize
-        ensures { λ r. ⌜ r ≡ bitmapAt self ⌝ }
+        ensures { λ r. ⌜ r ≡ bitmapAt (self .header) ⌝ }
         ensures small { λ r. ⌜ r ≤ 13 ⌝ }
     {
-        if self.kerned() {
+        if self.header.kerned() {
             return 13;
         }
         9
     }
 
-    fn bitmap_words(self) -> usize
-        ensures { λ r. ⌜ r ≡ bitmapWords self ⌝ }
-        ensures small { λ r. ⌜ r ≤ 8589672450 ⌝ }
-    {
-        self.raster as usize * self.height()
-    }
-
     pub fn pointers_at(self) -> usize
         ensures { λ r. ⌜ r ≡ pointersAt self ⌝ }
-        ensures small { λ r. ⌜ r ≤ 8589672463 ⌝ }
+        ensures small { λ r. ⌜ r ≤ 13 + largest ⌝ }
     {
-        self.bitmap_at() + self.bitmap_words()
+        self.bitmap_at() + self.body.bitmap_words()
     }
 
     // What the length word must be.
     fn body_sum(self) -> usize
         ensures { λ r. ⌜ r ≡ bodySum self ⌝ }
     {
-        self.bitmap_words() + self.codes() + 7
+        self.body.bitmap_words() + self.header.codes() + 7
     }
 
     // How many words the file must have.
     fn file_sum(self) -> usize
         ensures { λ r. ⌜ r ≡ fileSum self ⌝ }
     {
-        if self.kerned() {
-            return self.bitmap_words() + 2 * self.codes() + 16;
+        if self.header.kerned() {
+            return self.body.bitmap_words() + 2 * self.header.codes() + 16;
         }
-        self.bitmap_words() + self.codes() + 11
+        self.body.bitmap_words() + self.header.codes() + 11
     }
 }
 
@@ -210,7 +259,7 @@ impl Entry {
         2048
     }
 
-    fn advance(self, h: Header) -> u16
+    pub fn advance(self, h: Header) -> u16
         ensures { λ r. ⌜ r ≡ advanceOf h self ⌝ }
     {
         if h.kerned() {
@@ -221,17 +270,18 @@ impl Entry {
 }
 
 // The column pointers: the part of the file that begins after the bitmap.
-pub fn pointers(font: &[u16], h: Header) -> &[u16]
-    ensures { λ r. ⌜ now r ≡ pointersOf h (now (font .entry)) ⌝ }
+pub fn pointers(font: &[u16], v: View) -> &[u16]
+    ensures { λ r. ⌜ now r ≡ pointersOf v (now (font .entry)) ⌝ }
 {
-    words::part(font, h.pointers_at(), h.codes() + 2)
+    words::part(font, v.pointers_at(), v.header.codes() + 2)
 }
 
 // The width entries: the part of the file after the column pointers.
-pub fn widths(font: &[u16], h: Header) -> &[u16]
-    ensures { λ r. ⌜ now r ≡ widthsOf h (now (font .entry)) ⌝ }
+pub fn widths(font: &[u16], v: View) -> &[u16]
+    ensures { λ r. ⌜ now r ≡ widthsOf v (now (font .entry)) ⌝ }
 {
-    words::part(font, h.pointers_at() + h.codes() + 2, h.codes() + 1)
+    let codes = v.header.codes();
+    words::part(font, v.pointers_at() + codes + 2, codes + 1)
 }
 
 fn bad_format(h: Header) -> bool
@@ -273,53 +323,57 @@ fn bad_box(h: Header) -> bool
     false
 }
 
-fn bad_sizes(h: Header) -> bool
-    ensures { λ r. ⌜ r ≡ badSizes h ⌝ }
+fn bad_sizes(b: Body) -> bool
+    ensures { λ r. ⌜ r ≡ badSizes b ⌝ }
 {
-    if words::not_within(1, 256, h.height()) {
+    if words::not_within(1, 256, b.height()) {
         return true;
     }
-    if words::not_within(1, 4096, h.raster as usize) {
+    if words::not_within(1, 4096, b.raster as usize) {
         return true;
     }
-    if 0 < h.xoffset {
-        return true;
-    }
-    bad_box(h)
-}
-
-fn bad_length(h: Header, count: usize) -> bool
-    ensures { λ r. ⌜ r ≡ badLength h count ⌝ }
-{
-    if h.bodywords as usize != h.body_sum() {
-        return true;
-    }
-    if count != h.file_sum() {
+    if 0 < b.xoffset {
         return true;
     }
     false
 }
 
-// What a file of so many words is refused for by its header alone.
-pub fn header_number(h: Header, count: usize) -> u32
-    ensures { λ r. ⌜ r ≡ headerNumber h count ⌝ }
+// The length word, or the number of words of the file, is not what it must be.
+fn bad_length(words: u16, body: usize, count: usize, file: usize) -> bool
+    ensures { λ r. ⌜ r ≡ lengthsDiffer words body count file ⌝ }
+{
+    if words as usize != body {
+        return true;
+    }
+    if count != file {
+        return true;
+    }
+    false
+}
+
+// What a file of so many words is refused for by the words before its bitmap alone.
+pub fn head_number(v: View, count: usize) -> u32
+    ensures { λ r. ⌜ r ≡ headNumber v count ⌝ }
 {
     if count < 9 {
         return 1;
     }
-    if bad_format(h) {
+    if bad_format(v.header) {
         return 2;
     }
-    if kerned_too_short(h, count) {
+    if kerned_too_short(v.header, count) {
         return 1;
     }
-    if bad_codes(h) {
+    if bad_codes(v.header) {
         return 3;
     }
-    if bad_sizes(h) {
+    if bad_box(v.header) {
         return 4;
     }
-    if bad_length(h, count) {
+    if bad_sizes(v.body) {
+        return 4;
+    }
+    if bad_length(v.body.words, v.body_sum(), count, v.file_sum()) {
         return 5;
     }
     0
@@ -341,13 +395,13 @@ fn falls(pointers: &[u16]) -> bool
     false
 }
 
-fn bad_pointers(h: Header, falls: bool, dummy: Entry) -> bool
-    ensures { λ r. ⌜ r ≡ badPointers h falls dummy ⌝ }
+fn bad_pointers(b: Body, falls: bool, dummy: Entry) -> bool
+    ensures { λ r. ⌜ r ≡ badPointers b falls dummy ⌝ }
 {
     if falls {
         return true;
     }
-    16 * (h.raster as usize) < dummy.right as usize
+    16 * (b.raster as usize) < dummy.right as usize
 }
 
 fn no_dummy(h: Header, dummy: Entry) -> bool
@@ -357,40 +411,51 @@ fn no_dummy(h: Header, dummy: Entry) -> bool
 }
 
 // What a file is refused for by its two tables: by whether the pointers fall, and by the dummy's entry.
-pub fn table_number(h: Header, falls: bool, dummy: Entry) -> u32
-    ensures { λ r. ⌜ r ≡ tableNumber h falls dummy ⌝ }
+pub fn table_number(v: View, falls: bool, dummy: Entry) -> u32
+    ensures { λ r. ⌜ r ≡ tableNumber v falls dummy ⌝ }
 {
-    if bad_pointers(h, falls, dummy) {
+    if bad_pointers(v.body, falls, dummy) {
         return 6;
     }
-    if no_dummy(h, dummy) {
+    if no_dummy(v.header, dummy) {
         return 7;
     }
     0
+}
+
+// What a font is refused for by its view and its tables.
+fn number_by(font: &[u16], v: View) -> u32
+    ensures { λ r. ⌜ r ≡ numberBy v (now (font .entry)) ⌝ }
+{
+    let first = head_number(v, font.len());
+    if first != 0 {
+        return first;
+    }
+    let table = pointers(font, v);
+    let dummy = Entry::at(table, widths(font, v), v.header.codes());
+    table_number(v, falls(table), dummy)
+}
+
+// Reads a font: what finds its glyphs, or the number of its refusal.
+pub fn read(font: &[u16]) -> Reading
+    ensures { λ r. ⌜ r ≡ readingOf (now (font .entry)) ⌝ }
+{
+    let v = View::of(font);
+    let refusal = number_by(font, v);
+    if refusal != 0 {
+        return Reading::Refused(refusal);
+    }
+    Reading::Accepted(v)
 }
 
 // The number of a font file's refusal; 0 where it is accepted.
 pub fn number(font: &[u16]) -> u32
     ensures { λ r. ⌜ r ≡ fontNumber (now (font .entry)) ⌝ }
 {
-    let h = Header::of(font);
-    let first = header_number(h, font.len());
-    if first != 0 {
-        return first;
+    match read(font) {
+        Reading::Refused(number) => number,
+        Reading::Accepted(_) => 0,
     }
-    let table = pointers(font, h);
-    let dummy = Entry::at(table, widths(font, h), h.codes());
-    table_number(h, falls(table), dummy)
-}
-
-pub fn read(font: &[u16]) -> Reading
-    ensures { λ r. ⌜ r ≡ readingOf (now (font .entry)) ⌝ }
-{
-    let refusal = number(font);
-    if refusal != 0 {
-        return Reading::Refused(refusal);
-    }
-    Reading::Accepted(Header::of(font))
 }
 
 // A code from min to max whose own entry says that it exists.
@@ -416,32 +481,63 @@ fn shown(h: Header, own: Entry, dummy: Entry, code: u32) -> Entry
     dummy
 }
 
+impl Step {
+    // The step over what is shown for a code, by the code's own entry and the dummy's advance.
+    pub fn by(h: Header, own: Entry, dummy: u16, code: u32) -> Step
+        ensures { λ r. ⌜ r ≡ stepBy h own dummy code ⌝ }
+    {
+        if exists(h, own, code) {
+            return Step {
+                advance: own.advance(h),
+                substitute: false,
+            };
+        }
+        Step {
+            advance: dummy,
+            substitute: true,
+        }
+    }
+}
+
 impl Glyph {
     // What a font shows for a code, by the code's own entry and the dummy's.
-    pub fn by(h: Header, own: Entry, dummy: Entry, code: u32) -> Glyph
-        ensures { λ r. ⌜ r ≡ glyphBy h own dummy code ⌝ }
+    pub fn by(v: View, own: Entry, dummy: Entry, code: u32) -> Glyph
+        ensures { λ r. ⌜ r ≡ glyphBy v own dummy code ⌝ }
     {
+        let h = v.header;
         let entry = shown(h, own, dummy, code);
         Glyph {
-            bitmap: h.bitmap_at() as u32,
-            raster: h.raster,
+            bitmap: v.bitmap_at() as u32,
+            raster: v.body.raster,
             first: entry.left,
             columns: entry.columns(),
-            ascent: h.ascent,
-            height: h.height() as u32,
+            ascent: v.body.ascent,
+            height: v.body.height() as u32,
             place: entry.place(h),
             advance: entry.advance(h),
             substitute: !exists(h, own, code),
         }
     }
 
-    // What the font shows for a code, by its header and its two tables.
-    pub fn of(h: Header, pointers: &[u16], widths: &[u16], code: u32) -> Glyph
-        ensures { λ r. ⌜ r ≡ glyphFrom h (now (pointers .entry)) (now (widths .entry)) code ⌝ }
+    // What a font that has been read shows for a code. The pointer table is a part of the file, handed on to what reads an entry of it.
+    pub fn of(font: &[u16], v: View, code: u32) -> Glyph
+        ensures { λ r. ⌜ r ≡ glyphFrom v (now (font .entry)) code ⌝ }
     {
-        let own = Entry::at(pointers, widths, h.place(code));
-        let dummy = Entry::at(pointers, widths, h.codes());
-        Glyph::by(h, own, dummy, code)
+        let table = pointers(font, v);
+        let entries = widths(font, v);
+        let own = Entry::at(table, entries, v.header.place(code));
+        let dummy = Entry::at(table, entries, v.header.codes());
+        Glyph::by(v, own, dummy, code)
+    }
+
+    // How it moves the pen.
+    pub fn step(self) -> Step
+        ensures { λ r. ⌜ r ≡ stepOf self ⌝ }
+    {
+        Step {
+            advance: self.advance,
+            substitute: self.substitute,
+        }
     }
 
     // One dot of a picture; 0 past it.
@@ -476,13 +572,13 @@ impl Glyph {
 pub fn row(font: &[u16], r: usize) -> &[u16]
     ensures { λ part. ⌜ now part ≡ rowOf (now (font .entry)) r ⌝ }
 {
-    let h = Header::of(font);
-    if number(font) != 0 {
+    let v = View::of(font);
+    if number_by(font, v) != 0 {
         return &font[..0];
     }
-    if h.height() <= r {
+    if v.body.height() <= r {
         return &font[..0];
     }
-    let raster = h.raster as usize;
-    words::part(font, h.bitmap_at() + r * raster, raster)
+    let raster = v.body.raster as usize;
+    words::part(font, v.bitmap_at() + r * raster, raster)
 }

@@ -7,14 +7,18 @@ use native.Mathlib.Nat.{mul-le-mul-right, suc-mul}
 use native.Mathlib.Numerals.{add-one}
 use native.Mathlib.Omega.{arith}
 use lib.Dec.{ltb}
-use lib.IntN.{ℤ}
 use borrow.Author.Tests.{ltb-false, le-ltb}
 use Rattle.words.specs.Refusal.{firstOf, notWithin}
 use Rattle.words.specs.Place.{outside}
 use Rattle.words.proofs.Passed.{neither, passed, within}
+use Rattle.words.proofs.Signs.{place-le}
 use Rattle.paint.specs.declared.Shape.{Shape}
+use Rattle.paint.specs.declared.Label.{Label}
+use Rattle.paint.specs.declared.Stroke.{Stroke}
 use Rattle.paint.specs.Panel.{badSides, badShape, someShort, badPanel}
-use Rattle.paint.specs.Label.{labelNumber}
+use Rattle.paint.specs.Pen.{strokeOf, Drawable}
+use Rattle.paint.specs.Label.{labelNumber, numberWith}
+use Rattle.paint.proofs.Replies.{panel-good, label-good}
 
 -- what a shape and a slice that 8 does not refuse promise
 pub record GoodPanel (s : Shape) (room : ℕ) : Type 0 where
@@ -40,22 +44,23 @@ good-panel s room e =
       long = ltb-false room (s .rowwords * s .rows) (neither (ltb room (s .rowwords * s .rows)) false (shape-slice .1) .0);
     }
 
--- a label that its own numbers do not refuse: its places are within, it is short, and its strip is one of thirty-two
-pub good-places : (strip : ℕ) (x y : ℤ) (mode bytes : ℕ) → labelNumber strip x y mode bytes ≡ 0 → (outside x ≡ false) × (bytes ≤ 64)
-unfolding labelNumber firstOf
-good-places strip x y mode bytes e =
-    let nine = passed (ltb 31 strip) 9 _ (omega arith) e in
-    let ten = passed (outside x || outside y) 10 _ (omega arith) (nine .1) in
-    let eleven = passed (ltb 64 bytes) 11 _ (omega arith) (ten .1) in
-    (neither (outside x) (outside y) (ten .0) .0, ltb-false 64 bytes (eleven .0))
+-- what a label that its own numbers do not refuse promises
+pub record GoodLabel (l : Label) (bytes : ℕ) : Type 0 where
+  pub strip : l .strip ≤ 31
+  pub place : outside (l .x) ≡ false
+  pub short : bytes ≤ 64
 
-pub good-label : (strip : ℕ) (x y : ℤ) (mode bytes : ℕ) → labelNumber strip x y mode bytes ≡ 0 → (strip ≤ 31) × (bytes ≤ 64)
+pub good-label : (l : Label) (bytes : ℕ) → labelNumber l bytes ≡ 0 → GoodLabel l bytes
 unfolding labelNumber firstOf
-good-label strip x y mode bytes e =
-    let nine = passed (ltb 31 strip) 9 _ (omega arith) e in
-    let ten = passed (outside x || outside y) 10 _ (omega arith) (nine .1) in
+good-label l bytes e =
+    let nine = passed (ltb 31 (l .strip)) 9 _ (omega arith) e in
+    let ten = passed (outside (l .x) || outside (l .y)) 10 _ (omega arith) (nine .1) in
     let eleven = passed (ltb 64 bytes) 11 _ (omega arith) (ten .1) in
-    (ltb-false 31 strip (nine .0), ltb-false 64 bytes (eleven .0))
+    record {
+      strip = ltb-false 31 (l .strip) (nine .0);
+      place = neither (outside (l .x)) (outside (l .y)) (ten .0) .0;
+      short = ltb-false 64 bytes (eleven .0);
+    }
 
 -- thirty-two strips fit the panel
 pub strip-fits : (k width rowwords : ℕ) → k ≤ 31 → 32 * width ≤ 16 * rowwords → k * width + width ≤ 16 * rowwords
@@ -64,15 +69,17 @@ strip-fits k width rowwords h fit =
     let next : (k + 1) * width ≡ k * width + width = ap (λ (n : ℕ). n * width) (add-one k) ∙ suc-mul k width in
     omega arith
 
--- what a label's own numbers do not refuse in one mode, they do not refuse in Erase
-pub good-erase : (strip : ℕ) (x y : ℤ) (mode bytes : ℕ) → labelNumber strip x y mode bytes ≡ 0 → (0 ≡ labelNumber strip x y 1 bytes) × (mode ≤ 2)
-unfolding labelNumber firstOf
-good-erase strip x y mode bytes e =
-    let nine = passed (ltb 31 strip) 9 _ (omega arith) e in
-    let ten = passed (outside x || outside y) 10 _ (omega arith) (nine .1) in
-    let eleven = passed (ltb 64 bytes) 11 _ (omega arith) (ten .1) in
-    let twelve = passed (ltb 2 mode) 12 _ (omega arith) (eleven .1) in
-    (rw (nine .0, ten .0, eleven .0), ltb-false 2 mode (twelve .0))
+-- so a stroke of them can be drawn
+pub drawable : (s : Shape) (l : Label) (room : ℕ) → GoodPanel s room → l .strip ≤ 31 → Drawable (strokeOf s l) room
+unfolding strokeOf
+drawable s l room good one =
+    let fits = strip-fits (l .strip) (s .width) (s .rowwords) one (good .strips) in
+    let near = place-le (l .y) in
+    (good .some, good .narrow, good .low, omega arith, fits, omega arith, good .long)
+
+-- a slice that has kept its length can still be drawn on
+pub same-room : (k : Stroke) (n m : ℕ) → m ≡ n → Drawable k n → Drawable k m
+same-room k n m e d = (d .0, d .1, d .2, d .3, d .4, d .5, rw e (d .6))
 
 -- R × H words are enough for a shape that some slice passes
 pub just-enough : (s : Shape) (room : ℕ) → badPanel s (room ∷ []) ≡ false → badPanel s (s .rowwords * s .rows ∷ []) ≡ false
@@ -80,3 +87,11 @@ unfolding badPanel someShort
 just-enough s room e =
     let shape = neither (badShape s) (ltb room (s .rowwords * s .rows) || false) e .0 in
     rw (shape, le-ltb (s .rowwords * s .rows) (s .rowwords * s .rows) (omega arith))
+
+-- a call that is lent one slice, and that nothing but its font can refuse
+module _ (s : Shape) (room : ℕ) (l : Label) (bytes : ℕ) (number : 0 ≡ numberWith s (room ∷ []) l bytes) where
+  pub accepted-label : GoodLabel l bytes
+  accepted-label = good-label l bytes (label-good s (room ∷ []) l bytes number)
+
+  pub accepted-stroke : Drawable (strokeOf s l) room
+  accepted-stroke = drawable s l room (good-panel s room (panel-good s (room ∷ []) l bytes number)) (accepted-label .strip)

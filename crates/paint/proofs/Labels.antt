@@ -1,59 +1,67 @@
--- A label on the panel, one character at a time: the first character's marks, and then those of the rest.
+-- A text on the panel, one character at a time: the first character's marks, and then those of the rest. And on a sheet, whose keep and
+-- flip are altered each in its way.
 use Prim.Native.Nat.{ℕ, suc, _+_, _<_, _≤_}
-use mathlib.Core.Path.{_≡_, refl, sym, ap, _∙_}
+use mathlib.Core.Path.{_≡_, sym, ap, ap₂, _∙_}
 use mathlib.Core.List.{List, _∷_}
 use native.Mathlib.Numerals.{add-one}
 use lib.ListN.{length, getD, drop, drop-of-length-le}
 use lib.Seq.{drop-cons}
-use Rattle.words.specs.declared.Mode.{Mode}
-use Rattle.words.specs.Effect.{altered}
-use Rattle.words.proofs.Altering.{AllWords, altered-idle, altered-twice}
-use Rattle.fonts.specs.declared.Header.{Header}
-use Rattle.fonts.specs.Strike.{headerOf, pointersOf, widthsOf}
-use Rattle.fonts.specs.Face.{Face, glyphFrom, faceFrom, faceOf}
+use Rattle.words.specs.declared.Effect.{Effect}
+use Rattle.words.specs.Effect.{cleared, altered}
+use Rattle.words.proofs.Altering.{AllWords, altered-length, altered-idle, altered-twice}
+use Rattle.words.proofs.Clearing.{Carried, altered-over, cleared-over}
+use Rattle.fonts.specs.declared.Glyph.{Glyph}
+use Rattle.fonts.specs.Face.{Face, stepOf}
 use Rattle.paint.specs.declared.Shape.{Shape}
-use Rattle.paint.specs.declared.Strip.{Strip}
+use Rattle.paint.specs.declared.Stroke.{Stroke}
 use Rattle.paint.specs.declared.Pen.{Pen}
-use Rattle.paint.specs.Pen.{penAfter, pictureEffect, labelEffect}
+use Rattle.paint.specs.Panel.{panelWords}
+use Rattle.paint.specs.Sheet.{Sheet, sheetOf, written, joined}
+use Rattle.paint.specs.Pen.{penAfter, strokeWords, onPanel, pictureEffect, labelEffect}
 
-module _ (face : Face) (s : Shape) (strip : Strip) (y : ℕ) (mode : Mode) (n : ℕ) where
-  -- the panel with a label painted on it
-  abbrev pub painted : Pen → List ℕ → List ℕ → List ℕ
-  painted pen label panel = altered 0 n (labelEffect face s strip y mode pen label) panel
+module _ {f : Effect → Effect} (way : Carried f) (face : Face) (k : Stroke) where
+  -- lent words with a text on them, and with one picture
+  abbrev pub drawn : Pen → List ℕ → List ℕ → List ℕ
+  drawn pen text lent = onPanel (λ i. f (labelEffect face k pen text i)) k lent
 
-  first-then-rest : (pen : Pen) (c : ℕ) (rest panel : List ℕ) → n ≤ length panel
-      → painted pen (c ∷ rest) panel
-      ≡ painted (penAfter pen (face .glyph c)) rest (altered 0 n (pictureEffect (face .dot) s strip y mode pen (face .glyph c)) panel)
+  abbrev pub pictured : Pen → Glyph → List ℕ → List ℕ
+  pictured pen g lent = onPanel (λ i. f (pictureEffect (face .dot) k pen g i)) k lent
+
+  first-then-rest : (pen : Pen) (c : ℕ) (rest lent : List ℕ) → strokeWords k ≤ length lent
+      → drawn pen (c ∷ rest) lent ≡ drawn (penAfter pen (stepOf (face .glyph c))) rest (pictured pen (face .glyph c) lent)
   unfolding labelEffect
-  first-then-rest pen c rest panel fits = sym (altered-twice n _ _ panel fits)
+  first-then-rest pen c rest lent fits =
+      let first = pictureEffect (face .dot) k pen (face .glyph c) in
+      let later = labelEffect face k (penAfter pen (stepOf (face .glyph c))) rest in
+      ap (λ (e : ℕ → Effect). onPanel e k lent) (λ t i. way .joins (first i) (later i) t)
+      ∙ sym (altered-twice (strokeWords k) (λ i. f (first i)) (λ i. f (later i)) lent fits)
 
-  pub label-more : (label : List ℕ) (i : ℕ) (pen : Pen) (panel : List ℕ) → i < length label → n ≤ length panel
-      → painted pen (drop i label) panel
-      ≡ painted (penAfter pen (face .glyph (getD label i 0))) (drop (i + 1) label)
-      (altered 0 n (pictureEffect (face .dot) s strip y mode pen (face .glyph (getD label i 0))) panel)
-  label-more label i pen panel here fits =
-      ap (λ (l : List ℕ). painted pen l panel) (drop-cons label i 0 here)
-      ∙ first-then-rest pen (getD label i 0) (drop (suc i) label) panel fits
-      ∙ ap (λ (k : ℕ). painted (penAfter pen (face .glyph (getD label i 0))) (drop k label)
-      (altered 0 n (pictureEffect (face .dot) s strip y mode pen (face .glyph (getD label i 0))) panel)) (sym (add-one i))
+  pub pictured-length : (pen : Pen) (g : Glyph) (lent now : List ℕ) → now ≡ pictured pen g lent → length now ≡ length lent
+  pictured-length pen g lent now marks = ap length marks ∙ altered-length 0 _ lent (strokeWords k)
 
-  pub label-done : (label : List ℕ) (i : ℕ) (pen : Pen) (panel : List ℕ) → length label ≤ i → AllWords panel → painted pen (drop i label) panel ≡ panel
+  -- what a loop does in a turn
+  pub drawn-turn : (text : List ℕ) (i : ℕ) (pen next : Pen) (lent now : List ℕ) → i < length text → strokeWords k ≤ length lent
+      → next ≡ penAfter pen (stepOf (face .glyph (getD text i 0)))
+      → now ≡ pictured pen (face .glyph (getD text i 0)) lent
+      → drawn pen (drop i text) lent ≡ drawn next (drop (i + 1) text) now
+  drawn-turn text i pen next lent now here fits moved marks =
+      ap (λ (l : List ℕ). drawn pen l lent) (drop-cons text i 0 here)
+      ∙ first-then-rest pen (getD text i 0) (drop (suc i) text) lent fits
+      ∙ (λ t. drawn (sym moved t) (drop (sym (add-one i) t) text) (sym marks t))
+
+  pub drawn-done : (text : List ℕ) (i : ℕ) (pen : Pen) (lent : List ℕ) → length text ≤ i → AllWords lent
+      → drawn pen (drop i text) lent ≡ lent
   unfolding labelEffect
-  label-done label i pen panel past words = rw (drop-of-length-le label past) (altered-idle 0 n _ panel words (λ j less. refl))
+  drawn-done text i pen lent past words =
+      rw (drop-of-length-le text past) (altered-idle 0 (strokeWords k) _ lent words (λ j less. way .still))
 
--- ---- the face of a font, by the header and the tables that were read from it
+-- ---- a label on a sheet: what its effect does to keep and to flip, together
 
-module _ (h : Header) (pointers widths ws : List ℕ) (header : h ≡ headerOf ws) (table : pointers ≡ pointersOf h ws) (entries : widths ≡ widthsOf h ws) where
-  pub face-is : faceFrom h pointers widths ws ≡ faceOf ws
-  unfolding faceOf
-  face-is = rw (table, entries) (ap (λ (k : Header). faceFrom k (pointersOf k ws) (widthsOf k ws) ws) header)
-
-  pub glyph-is : glyphFrom h pointers widths ≡ faceOf ws .glyph
-  unfolding faceFrom
-  glyph-is = ap (λ (f : Face). f .glyph) face-is
-
--- the same label, by parts that are equal
-pub same-label : (s : Shape) (n : ℕ) (label panel : List ℕ) {f f′ : Face} {a a′ : Strip} {y y′ : ℕ} {m m′ : Mode} {p p′ : Pen}
-    → f ≡ f′ → a ≡ a′ → y ≡ y′ → m ≡ m′ → p ≡ p′
-    → altered 0 n (labelEffect f s a y m p label) panel ≡ altered 0 n (labelEffect f′ s a′ y′ m′ p′ label) panel
-same-label s n label panel face area row mode pen = λ i. altered 0 n (labelEffect (face i) s (area i) (row i) (mode i) (pen i) label) panel
+pub sheet-drawn : (s : Shape) (e : ℕ → Effect) (sheet : Sheet) (keep flip : List ℕ)
+    → keep ≡ altered 0 (panelWords s) (cleared e) (sheet .keep) → flip ≡ altered 0 (panelWords s) e (sheet .flip)
+    → sheetOf keep flip ≡ joined s e sheet
+unfolding written
+sheet-drawn s e sheet keep flip kept flipped =
+    ap₂ sheetOf
+    (kept ∙ cleared-over (panelWords s) e (sheet .keep))
+    (flipped ∙ altered-over (panelWords s) e (sheet .flip))

@@ -1,5 +1,5 @@
--- Where the dots of a picture land, in the paper's words: a row and column of the panel is marked exactly when a dot of the picture lands there
--- within the strip. And two strips share no column.
+-- Where the dots of a picture land, in the paper's words: a row and column of the panel is marked exactly when a dot of the picture lands
+-- there within the strip. And two strips share no column.
 use Prim.Native.Nat.{ℕ, _+_, _-_, _*_, _/_, _<_, _≤_}
 use mathlib.Core.Path.{_≡_, refl, sym, ap, ap₂, _∙_}
 use mathlib.Core.Bool.{Bool, true, false, cond}
@@ -12,6 +12,7 @@ use Rattle.words.proofs.Passed.{both}
 use Rattle.fonts.specs.declared.Glyph.{Glyph}
 use Rattle.paint.specs.declared.Shape.{Shape}
 use Rattle.paint.specs.declared.Strip.{Strip}
+use Rattle.paint.specs.declared.Stroke.{Stroke}
 use Rattle.paint.specs.declared.Pen.{Pen}
 use Rattle.paint.specs.Panel.{stripOf}
 use Rattle.paint.specs.Pen.{inStrip, dotAlong, mark}
@@ -37,50 +38,67 @@ within-strip strip column e =
 pub strip-of-column : (s : Shape) (k column : ℕ) → inStrip (stripOf s k) column ≡ 1 → column / s .width ≡ k
 strip-of-column s k column inside =
     let here = within-strip (stripOf s k) column inside in
-    let next : (k + 1) * s .width ≡ k * s .width + s .width = add-mul k 1 (s .width) ∙ ap (λ (n : ℕ). k * s .width + n) (one-mul (s .width)) in
+    let next : (k + 1) * s .width ≡ k * s .width + s .width =
+    add-mul k 1 (s .width) ∙ ap (λ (n : ℕ). k * s .width + n) (one-mul (s .width)) in
     div-eq-of-lt-le (s .width) (here .0) (rw next (here .1))
 
 pub strips-apart : (s : Shape) (k l column : ℕ) → inStrip (stripOf s k) column ≡ 1 → inStrip (stripOf s l) column ≡ 1 → k ≡ l
 strips-apart s k l column ink inl = sym (strip-of-column s k column ink) ∙ strip-of-column s l column inl
 
--- dot (r, j) of a picture lands on a row and column of the panel: "Picture row r lands on panel row y - ascent + r", and its left column at the
--- pen and the glyph's place, counted in strip columns
-pub record Lands (dot : Glyph → ℕ → ℕ → ℕ) (strip : Strip) (y : ℕ) (pen : Pen) (g : Glyph) (row column : ℕ) : Type 0 where
+-- dot (r, j) of a picture lands on a row and column of the panel: "Picture row r lands on panel row y - ascent + r", and its left column at
+-- the pen and the glyph's place, counted in strip columns
+pub record Lands (dot : Glyph → ℕ → ℕ → ℕ) (k : Stroke) (pen : Pen) (g : Glyph) (row column : ℕ) : Type 0 where
   pub r : ℕ
   pub j : ℕ
   pub set : dot g r j ≡ 1
-  pub down : y + r ≡ row + 2048 + g .ascent
-  pub across : strip .from + (pen .place + g .place) + j ≡ column + 4096
-  pub from : strip .from ≤ column
-  pub upto : column < strip .upto
+  pub down : k .y + r ≡ row + 2048 + g .ascent
+  pub across : k .strip .from + (pen .place + g .place) + j ≡ column + 4096
+  pub from : k .strip .from ≤ column
+  pub upto : column < k .strip .upto
 
-module _ (dot : Glyph → ℕ → ℕ → ℕ) (strip : Strip) (y : ℕ) (pen : Pen) (g : Glyph) (row column : ℕ) where
-  pub marked-lands : ((r j : ℕ) → dot g r j < 2) → mark dot strip y pen g row column ≡ 1 → Lands dot strip y pen g row column
+module _ (dot : Glyph → ℕ → ℕ → ℕ) (k : Stroke) (pen : Pen) (g : Glyph) (row column : ℕ) where
+  abbrev below : ℕ
+  below = row + 2048 + g .ascent
+
+  abbrev left : ℕ
+  left = pen .place + g .place
+
+  abbrev at : ℕ
+  at = column + 4096 - k .strip .from
+
+  pub marked-lands : ((r j : ℕ) → dot g r j < 2) → mark dot k pen g row column ≡ 1 → Lands dot k pen g row column
   unfolding mark dotAlong
   marked-lands bits e =
-      let below = row + 2048 + g .ascent in
-      let left = pen .place + g .place in
-      let at = column + 4096 - strip .from in
-      let rows = choice-one (leb y below) _ e in
+      let rows = choice-one (leb (k .y) below) _ e in
       let factors =
-      product-one (dotAlong (dot g (below - y)) left at) (inStrip strip column)
-      (along-bit (dot g (below - y)) (bits (below - y)) left 0 at) (in-strip-bit strip column) (rows .1) in
+      product-one (dotAlong (dot g (below - k .y)) left at) (inStrip (k .strip) column)
+      (along-bit (dot g (below - k .y)) (bits (below - k .y)) left 0 at) (in-strip-bit (k .strip) column) (rows .1) in
       let reaches = choice-one (leb left at) _ (factors .0) in
-      let inside = within-strip strip column (factors .1) in
-      let le₁ : y ≤ below = leb-true y below (rows .0) in
+      let inside = within-strip (k .strip) column (factors .1) in
+      let le₁ : k .y ≤ below = leb-true (k .y) below (rows .0) in
       let le₂ : left ≤ at = leb-true left at (reaches .0) in
-      record { r = below - y; j = at - left; set = reaches .1; down = omega arith; across = omega arith; from = inside .0; upto = inside .1 }
+      record {
+        r = below - k .y;
+        j = at - left;
+        set = reaches .1;
+        down = omega arith;
+        across = omega arith;
+        from = inside .0;
+        upto = inside .1;
+      }
 
-  pub lands-marked : Lands dot strip y pen g row column → mark dot strip y pen g row column ≡ 1
+  pub lands-marked : Lands dot k pen g row column → mark dot k pen g row column ≡ 1
   unfolding mark dotAlong inStrip
   lands-marked l =
-      let below = row + 2048 + g .ascent in
-      let left = pen .place + g .place in
-      let at = column + 4096 - strip .from in
       let down = l .down in
       let across = l .across in
       let from = l .from in
-      let row-is : below - y ≡ l .r = omega arith in
+      let row-is : below - k .y ≡ l .r = omega arith in
       let column-is : at - left ≡ l .j = omega arith in
-      rw (le-leb y below (omega arith), le-leb left at (omega arith), le-leb (strip .from) column (l .from), lt-ltb column (strip .upto) (l .upto))
-      (mul-one (dot g (below - y) (at - left)) ∙ ap₂ (dot g) row-is column-is ∙ l .set)
+      rw (
+        le-leb (k .y) below (omega arith),
+        le-leb left at (omega arith),
+        le-leb (k .strip .from) column (l .from),
+        lt-ltb column (k .strip .upto) (l .upto),
+      )
+      (mul-one (dot g (below - k .y) (at - left)) ∙ ap₂ (dot g) row-is column-is ∙ l .set)

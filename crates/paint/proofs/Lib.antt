@@ -4,6 +4,8 @@ pub mod Replies
 pub mod Marks
 pub mod Rows
 pub mod Labels
+pub mod Slices
+pub mod Sizes
 pub mod Accepted
 pub mod Landing
 pub mod Demand

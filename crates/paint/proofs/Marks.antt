@@ -12,6 +12,7 @@ use Rattle.words.proofs.BitLaws.{on-digit}
 use Rattle.words.proofs.Bits.{word-of-same, word-of-none, word-of-lt, and-words, later, shifted-word}
 use Rattle.fonts.specs.declared.Glyph.{Glyph}
 use Rattle.paint.specs.declared.Strip.{Strip}
+use Rattle.paint.specs.declared.Stroke.{Stroke}
 use Rattle.paint.specs.declared.Pen.{Pen}
 use Rattle.paint.specs.Pen.{inStrip, dotAlong, mark, maskFrom}
 
@@ -51,7 +52,8 @@ module _ (dot : ℕ → ℕ) (bits : (j : ℕ) → dot j < 2) (left base : ℕ) 
       rw (e, lt-leb left (base + j) (omega arith))
 
   -- it begins within the word
-  pub begins : base ≤ left → left - base ≤ 16 → wordOf (λ i. dot (0 + i)) / 2 ^ (left - base) ≡ wordOf (λ j. dotAlong dot left (base + j))
+  pub begins : base ≤ left → left - base ≤ 16
+      → wordOf (λ i. dot (0 + i)) / 2 ^ (left - base) ≡ wordOf (λ j. dotAlong dot left (base + j))
   begins h k =
       ap (λ (w : ℕ). w / 2 ^ (left - base)) (word-of-same (λ i. dot (0 + i)) dot (λ j less. ap dot (zero-add j)))
       ∙ shifted-word dot bits (left - base) k
@@ -70,59 +72,73 @@ clipped f g hf hg = and-words f g hf hg ∙ word-of-same _ _ (λ i less. product
 
 -- ---- the mask
 
-module _ (dot : Glyph → ℕ → ℕ → ℕ) (strip : Strip) (y : ℕ) (pen : Pen) (g : Glyph) (row start : ℕ) where
-  -- the row lies above the picture
-  pub mask-above : row + 2048 + g .ascent < y → 0 ≡ maskFrom dot strip y pen g row start
-  unfolding maskFrom mark
-  mask-above h = sym (word-of-none _ (λ j less. rw (lt-leb y (row + 2048 + g .ascent) h)))
+choice-zero : (t : Bool) (a : ℕ) → a ≡ 0 → cond t a 0 ≡ 0
+choice-zero true a e = e
+choice-zero false a e = refl
 
-  -- or not: then the dots of its row are shifted to their place and clipped
-  pub mask-of : ((i j : ℕ) → dot g i j < 2) → y ≤ row + 2048 + g .ascent → strip .from ≤ start + 4096
-      → bitAnd (wordOf (λ j. dotAlong (dot g (row + 2048 + g .ascent - y)) (pen .place + g .place) (start + 4096 - strip .from + j)))
-      (wordOf (λ j. inStrip strip (start + j)))
-      ≡ maskFrom dot strip y pen g row start
-  unfolding maskFrom mark
-  mask-of bits h k =
-      clipped _ _ (λ i. along-bit (dot g (row + 2048 + g .ascent - y)) (bits (row + 2048 + g .ascent - y)) (pen .place + g .place) 0 (start + 4096 - strip .from + i))
-      (λ i. in-strip-bit strip (start + i))
-      ∙ word-of-same _ _
-      (λ j less. let e : start + 4096 - strip .from + j ≡ start + j + 4096 - strip .from = omega arith in
-      rw (le-leb y (row + 2048 + g .ascent) h)
-      (ap (λ (at : ℕ). dotAlong (dot g (row + 2048 + g .ascent - y)) (pen .place + g .place) at * inStrip strip (start + j)) e))
+mark-product : (t : Bool) (a b : ℕ) → a < 2 → b < 2 → cond t (a * b) 0 < 2
+mark-product true a b ha hb = on-digit (λ (x : ℕ). x * b < 2) (rw (zero-mul b) (omega arith)) (rw (one-mul b) hb) a ha
+mark-product false a b ha hb = omega arith
 
-  mark-product : (t : Bool) (a b : ℕ) → a < 2 → b < 2 → cond t (a * b) 0 < 2
-  mark-product true a b ha hb = on-digit (λ (x : ℕ). x * b < 2) (rw (zero-mul b) (omega arith)) (rw (one-mul b) hb) a ha
-  mark-product false a b ha hb = omega arith
+module _ (dot : Glyph → ℕ → ℕ → ℕ) (k : Stroke) (pen : Pen) (g : Glyph) (row : ℕ) where
+  -- the row of the picture that comes to lie there, and its dots by their place
+  abbrev below : ℕ
+  below = row + 2048 + g .ascent
 
-  pub mask-lt : ((i j : ℕ) → dot g i j < 2) → maskFrom dot strip y pen g row start < 65536
-  unfolding maskFrom mark
-  mask-lt bits =
-      word-of-lt _
-      (λ j. mark-product (leb y (row + 2048 + g .ascent)) _ _
-      (along-bit (dot g (row + 2048 + g .ascent - y)) (bits (row + 2048 + g .ascent - y)) (pen .place + g .place) 0 (start + j + 4096 - strip .from))
-      (in-strip-bit strip (start + j)))
+  abbrev pub rowDots : ℕ → ℕ
+  rowDots = dotAlong (dot g (below - k .y)) (pen .place + g .place)
 
-  choice-zero : (t : Bool) (a : ℕ) → a ≡ 0 → cond t a 0 ≡ 0
-  choice-zero true a e = e
-  choice-zero false a e = refl
+  row-bit : ((i j : ℕ) → dot g i j < 2) → (at : ℕ) → rowDots at < 2
+  row-bit bits at = along-bit (dot g (below - k .y)) (bits (below - k .y)) (pen .place + g .place) 0 at
 
-  -- the row lies below the picture
-  pub mask-under : ((i j : ℕ) → g .height ≤ i → dot g i j ≡ 0) → y + g .height ≤ row + 2048 + g .ascent → maskFrom dot strip y pen g row start ≡ 0
-  unfolding maskFrom mark dotAlong
-  mask-under past h =
-      word-of-none _
-      (λ j less. choice-zero (leb y (row + 2048 + g .ascent)) _
-      (ap (λ (d : ℕ). d * inStrip strip (start + j)) (choice-zero (leb (pen .place + g .place) (start + j + 4096 - strip .from)) _ (past (row + 2048 + g .ascent - y) _ (omega arith)))
-      ∙ zero-mul (inStrip strip (start + j))))
+  pub mark-bit : (column : ℕ) → ((i j : ℕ) → dot g i j < 2) → mark dot k pen g row column < 2
+  unfolding mark
+  mark-bit column bits =
+      mark-product (leb (k .y) below) _ _ (row-bit bits (column + 4096 - k .strip .from)) (in-strip-bit (k .strip) column)
 
-  -- the sixteen columns lie outside the strip
-  pub mask-beside : ((j : ℕ) → j < 16 → inStrip strip (start + j) ≡ 0) → maskFrom dot strip y pen g row start ≡ 0
-  unfolding maskFrom mark
-  mask-beside outside =
-      word-of-none _
-      (λ j less. choice-zero (leb y (row + 2048 + g .ascent)) _
-      (ap (λ (b : ℕ). dotAlong (dot g (row + 2048 + g .ascent - y)) (pen .place + g .place) (start + j + 4096 - strip .from) * b) (outside j less)
-      ∙ mul-zero (dotAlong (dot g (row + 2048 + g .ascent - y)) (pen .place + g .place) (start + j + 4096 - strip .from))))
+  -- a column outside the strip
+  pub mark-beside : (column : ℕ) → inStrip (k .strip) column ≡ 0 → mark dot k pen g row column ≡ 0
+  unfolding mark
+  mark-beside column out =
+      let here = rowDots (column + 4096 - k .strip .from) in
+      choice-zero (leb (k .y) below) _ (ap (λ (b : ℕ). here * b) out ∙ mul-zero here)
+
+  module _ (start : ℕ) where
+    -- the row lies above the picture
+    pub mask-above : below < k .y → 0 ≡ maskFrom dot k pen g row start
+    unfolding maskFrom mark
+    mask-above h = sym (word-of-none _ (λ j less. rw (lt-leb (k .y) below h)))
+
+    -- or not: then the dots of its row are shifted to their place and clipped
+    pub mask-of : ((i j : ℕ) → dot g i j < 2) → k .y ≤ below → k .strip .from ≤ start + 4096
+        → bitAnd (wordOf (λ j. rowDots (start + 4096 - k .strip .from + j))) (wordOf (λ j. inStrip (k .strip) (start + j)))
+        ≡ maskFrom dot k pen g row start
+    unfolding maskFrom mark
+    mask-of bits h near =
+        clipped _ _ (λ i. row-bit bits (start + 4096 - k .strip .from + i)) (λ i. in-strip-bit (k .strip) (start + i))
+        ∙ word-of-same _ _
+        (λ j less.
+        let e : start + 4096 - k .strip .from + j ≡ start + j + 4096 - k .strip .from = omega arith in
+        rw (le-leb (k .y) below h) (ap (λ (at : ℕ). rowDots at * inStrip (k .strip) (start + j)) e))
+
+    pub mask-lt : ((i j : ℕ) → dot g i j < 2) → maskFrom dot k pen g row start < 65536
+    unfolding maskFrom
+    mask-lt bits = word-of-lt _ (λ j. mark-bit (start + j) bits)
+
+    -- the row lies below the picture
+    pub mask-under : ((i j : ℕ) → g .height ≤ i → dot g i j ≡ 0) → k .y + g .height ≤ below → maskFrom dot k pen g row start ≡ 0
+    unfolding maskFrom mark dotAlong
+    mask-under past h =
+        word-of-none _
+        (λ j less.
+        let inside = inStrip (k .strip) (start + j) in
+        let none = choice-zero (leb (pen .place + g .place) (start + j + 4096 - k .strip .from)) _ (past (below - k .y) _ (omega arith)) in
+        choice-zero (leb (k .y) below) _ (ap (λ (d : ℕ). d * inside) none ∙ zero-mul inside))
+
+    -- the sixteen columns lie outside the strip
+    pub mask-beside : ((j : ℕ) → j < 16 → inStrip (k .strip) (start + j) ≡ 0) → maskFrom dot k pen g row start ≡ 0
+    unfolding maskFrom
+    mask-beside outside = word-of-none _ (λ j less. mark-beside (start + j) (outside j less))
 
 -- a column left of the strip, and one right of it
 pub strip-right-of : (strip : Strip) (column : ℕ) → column < strip .from → inStrip strip column ≡ 0
@@ -136,17 +152,3 @@ both-fail false t e = refl
 pub strip-left-of : (strip : Strip) (column : ℕ) → strip .upto ≤ column → inStrip strip column ≡ 0
 unfolding inStrip
 strip-left-of strip column h = both-fail (leb (strip .from) column) (ltb column (strip .upto)) (le-ltb column (strip .upto) h)
-
-pub mark-bit : (dot : Glyph → ℕ → ℕ → ℕ) (strip : Strip) (y : ℕ) (pen : Pen) (g : Glyph) (row column : ℕ) → ((i j : ℕ) → dot g i j < 2) → mark dot strip y pen g row column < 2
-unfolding mark
-mark-bit dot strip y pen g row column bits =
-    mark-product dot strip y pen g row column (leb y (row + 2048 + g .ascent)) _ _
-    (along-bit (dot g (row + 2048 + g .ascent - y)) (bits (row + 2048 + g .ascent - y)) (pen .place + g .place) 0 (column + 4096 - strip .from))
-    (in-strip-bit strip column)
-
-pub mark-beside : (dot : Glyph → ℕ → ℕ → ℕ) (strip : Strip) (y : ℕ) (pen : Pen) (g : Glyph) (row column : ℕ) → inStrip strip column ≡ 0 → mark dot strip y pen g row column ≡ 0
-unfolding mark
-mark-beside dot strip y pen g row column out =
-    choice-zero dot strip y pen g row column (leb y (row + 2048 + g .ascent)) _
-    (ap (λ (b : ℕ). dotAlong (dot g (row + 2048 + g .ascent - y)) (pen .place + g .place) (column + 4096 - strip .from) * b) out
-    ∙ mul-zero (dotAlong (dot g (row + 2048 + g .ascent - y)) (pen .place + g .place) (column + 4096 - strip .from)))

@@ -9,6 +9,8 @@ use Rattle.paint.proofs.Shape.panel_words as panel-words
 use Rattle.paint.proofs.bad_panel as bad-panel
 use Rattle.paint.proofs.measure as measure
 use Rattle.paint.proofs.measure_bytes as measure-bytes
+use Rattle.paint.proofs.paint_label as paint-label
+use Rattle.paint.proofs.join_label as join-label
 use Rattle.paint.proofs.paint as paint
 
 pub panel-words-one : OneReply 0 panel-words.Kinds.ps panel-words.Kinds.r panel-words.Reads.Post
@@ -23,7 +25,20 @@ measure-one κs a r o e e′ p q = p ∙ sym q
 pub measure-bytes-one : OneReply 2 measure-bytes.Kinds.ps measure-bytes.Kinds.r measure-bytes.Reads.Post
 measure-bytes-one κs a r o e e′ p q = p ∙ sym q
 
-pub paint-one : (κs : Lfts 3) (a : Dens κs paint.Kinds.ps) (r o : resT paint.Kinds.r κs .Denot) (e e′ : AtExit (endedOf 3 paint.Kinds.ps paint.Kinds.r) κs)
+pub paint-label-one : (κs : Lfts 3) (a : Dens κs paint-label.Kinds.ps) (r o : resT paint-label.Kinds.r κs .Denot)
+    (e e′ : AtExit (endedOf 3 paint-label.Kinds.ps paint-label.Kinds.r) κs)
+    → paint-label.Reads.Post κs a r e → paint-label.Reads.Post κs a o e′
+    → (r ≡ o) × (now (e .1 .1 .1 .1 .1 .0) ≡ now (e′ .1 .1 .1 .1 .1 .0))
+paint-label-one κs a r o e e′ p q = (p .0 ∙ sym (q .0), p .1 ∙ sym (q .1))
+
+pub join-label-one : (κs : Lfts 4) (a : Dens κs join-label.Kinds.ps) (r o : resT join-label.Kinds.r κs .Denot)
+    (e e′ : AtExit (endedOf 4 join-label.Kinds.ps join-label.Kinds.r) κs)
+    → join-label.Reads.Post κs a r e → join-label.Reads.Post κs a o e′
+    → (r ≡ o) × (now (e .1 .1 .1 .1 .1 .0) ≡ now (e′ .1 .1 .1 .1 .1 .0)) × (now (e .1 .1 .1 .1 .1 .1 .0) ≡ now (e′ .1 .1 .1 .1 .1 .1 .0))
+join-label-one κs a r o e e′ p q = (p .0 ∙ sym (q .0), p .1 .0 ∙ sym (q .1 .0), p .1 .1 ∙ sym (q .1 .1))
+
+pub paint-one : (κs : Lfts 3) (a : Dens κs paint.Kinds.ps) (r o : resT paint.Kinds.r κs .Denot)
+    (e e′ : AtExit (endedOf 3 paint.Kinds.ps paint.Kinds.r) κs)
     → paint.Reads.Post κs a r e → paint.Reads.Post κs a o e′
-    → (r ≡ o) × (now (e .1 .1 .1 .1 .1 .1 .1 .0) ≡ now (e′ .1 .1 .1 .1 .1 .1 .1 .0))
+    → (r ≡ o) × (now (e .1 .1 .1 .1 .0) ≡ now (e′ .1 .1 .1 .1 .0))
 paint-one κs a r o e e′ p q = (p .0 ∙ sym (q .0), p .1 ∙ sym (q .1))

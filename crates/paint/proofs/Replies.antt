@@ -1,65 +1,165 @@
--- The reply of a call, once its number is known.
-use Prim.Native.Nat.{ℕ, _*_, _≤_}
-use mathlib.Core.Path.{_≡_, refl}
-use mathlib.Core.Bool.{true, false}
+-- The reply of a call, and what it leaves in lent memory, once its number is known.
+use Prim.Native.Nat.{ℕ, _≤_, min}
+use mathlib.Core.Path.{_≡_, refl, sym, ap, _∙_}
+use mathlib.Core.Bool.{Bool, true, false, cond}
 use mathlib.Core.List.{List, [], _∷_}
 use lib.ListN.{length}
 use lib.Dec.{ltb}
 use lib.IntN.{ℤ}
 use native.Mathlib.Omega.{arith}
 use borrow.Author.Tests.{ne-eqb, eqb-false, ltb-false}
-use Rattle.words.specs.Refusal.{firstOf}
+use Rattle.words.specs.Refusal.{firstOf, orElse}
 use Rattle.words.specs.Effect.{altered}
+use Rattle.words.specs.Place.{outside}
 use Rattle.words.proofs.Chain.{stage-stops, stage-goes-on}
-use Rattle.fonts.specs.Reading.{fontNumber}
-use Rattle.paint.specs.declared.Shape.{Shape}
-use Rattle.words.specs.Place.{outside, numberAt}
 use Rattle.words.proofs.Passed.{passed, stages-passed}
+use Rattle.fonts.specs.declared.View.{View}
+use Rattle.fonts.specs.Strike.{viewOf}
+use Rattle.fonts.specs.Reading.{fontNumber}
+use Rattle.fonts.specs.Face.{Face, faceFrom, faceOf}
+use Rattle.paint.specs.declared.Shape.{Shape}
+use Rattle.paint.specs.declared.Label.{Label}
 use Rattle.paint.specs.declared.Pen.{Pen}
 use Rattle.paint.specs.declared.Reply.{Reply}
 use Rattle.paint.specs.declared.Reply.the-variants.{Done, Refused}
-use Rattle.paint.specs.Label.{Call, labelNumber, callNumber, callEffect, paintAfter, replyFor, measureNumber}
-use Rattle.paint.specs.Panel.{badPanel, panelNumber}
+use Rattle.paint.specs.Panel.{panelWords, badPanel, panelNumber}
+use Rattle.paint.specs.Label.{Call, labelNumber, numberWith, callNumber, lastPen, finishOf, replyFor, replyWith, replyOf}
+use Rattle.paint.specs.Label.{effectWith, paintWith, paintAfter, joinWith, measureNumber, measureWith, measureOf}
+use Rattle.paint.specs.Sheet.{Sheet, lengths, joined}
+use Rattle.paint.proofs.Slices.{shorter-number}
 
 pub replies-refused : (n number : ℕ) (pen : Pen) → n ≡ number → (n ≡ 0 → ⊥) → Refused n ≡ replyFor number pen
 unfolding replyFor
 replies-refused n number pen e h = rw (← e) (rw (ne-eqb n 0 h))
 
-pub replies-done : (reply : Reply) (number : ℕ) (pen : Pen) → 0 ≡ number → reply ≡ Done (numberAt (pen .place)) (pen .substitutes) → reply ≡ replyFor number pen
+pub replies-done : (reply : Reply) (number : ℕ) (pen : Pen) → 0 ≡ number → reply ≡ Done (finishOf pen) → reply ≡ replyFor number pen
 unfolding replyFor
 replies-done reply number pen e h = rw (← e) h
 
--- a label that measuring does not refuse has 64 bytes at most
-pub measure-short : (font : ℕ) (x : ℤ) (bytes : ℕ) → measureNumber font x bytes ≡ 0 → bytes ≤ 64
+one-rule : (t : Bool) → _≡_ {A = ℕ} (cond t 8 0) 0 → t ≡ false
+one-rule true e = absurd (omega arith)
+one-rule false e = refl
+
+-- a text that measuring does not refuse has 64 bytes at most
+pub measure-short : (x : ℤ) (bytes : ℕ) → measureNumber x bytes ≡ 0 → bytes ≤ 64
 unfolding measureNumber firstOf
-measure-short font x bytes e =
-    let own = stages-passed font _ e .1 in
-    let place = passed (outside x) 10 _ (omega arith) own in
+measure-short x bytes e =
+    let place = passed (outside x) 10 _ (omega arith) e in
     ltb-false 64 bytes (passed (ltb 64 bytes) 11 _ (omega arith) (place .1) .0)
 
--- the panel of a call, once its number is known
-pub panel-refused : (n : ℕ) (s : Shape) (call : Call) (panel : List ℕ) → n ≡ callNumber s (length panel ∷ []) call → (n ≡ 0 → ⊥) → panel ≡ paintAfter s call panel
-unfolding paintAfter
-panel-refused n s call panel e h = rw (← e) (rw (ne-eqb n 0 h))
+-- ---- with a font that has been read
 
-pub panel-painted : (after : List ℕ) (s : Shape) (call : Call) (panel : List ℕ) → 0 ≡ callNumber s (length panel ∷ []) call
-    → after ≡ altered 0 (s .rowwords * s .rows) (callEffect s call) panel
-    → after ≡ paintAfter s call panel
-unfolding paintAfter
-panel-painted after s call panel e h = rw (← e) h
+module _ (face : Face) (x : ℤ) (text : List ℕ) (n : ℕ) (e : n ≡ measureNumber x (length text)) where
+  pub measuring-refused : (n ≡ 0 → ⊥) → Refused n ≡ measureWith face x text
+  unfolding measureWith
+  measuring-refused some = replies-refused n _ _ e some
 
--- ---- the number of a label call, stage by stage
+  pub measuring-done : (reply : Reply) (pen : Pen) → n ≡ 0 → reply ≡ Done (finishOf pen) → pen ≡ lastPen face x text
+      → reply ≡ measureWith face x text
+  unfolding measureWith
+  measuring-done reply pen zero done last = replies-done reply _ _ (sym zero ∙ e) (done ∙ ap (λ (p : Pen). Done (finishOf p)) last)
 
-module _ (s : Shape) (lent : List ℕ) (call : Call) where
-  pub by-font : (n : ℕ) → n ≡ fontNumber (call .font) → (n ≡ 0 → ⊥) → n ≡ callNumber s lent call
+module _ (face : Face) (s : Shape) (l : Label) (text : List ℕ) where
+  pub panel-stays : (n : ℕ) (panel : List ℕ) → n ≡ numberWith s (length panel ∷ []) l (length text) → (n ≡ 0 → ⊥)
+      → panel ≡ paintWith face s l text panel
+  unfolding paintWith
+  panel-stays n panel e h = rw (← e) (rw (ne-eqb n 0 h))
+
+  pub panel-painted : (after panel : List ℕ) → 0 ≡ numberWith s (length panel ∷ []) l (length text)
+      → after ≡ altered 0 (panelWords s) (effectWith face s l text) panel → after ≡ paintWith face s l text panel
+  unfolding paintWith
+  panel-painted after panel e h = rw (← e) h
+
+  pub sheet-stays : (n : ℕ) (sheet : Sheet) → n ≡ numberWith s (lengths sheet) l (length text) → (n ≡ 0 → ⊥)
+      → sheet ≡ joinWith face s l text sheet
+  unfolding joinWith
+  sheet-stays n sheet e h = rw (← e) (rw (ne-eqb n 0 h))
+
+  pub sheet-joined : (sheet : Sheet) → 0 ≡ numberWith s (lengths sheet) l (length text)
+      → joined s (effectWith face s l text) sheet ≡ joinWith face s l text sheet
+  unfolding joinWith
+  sheet-joined sheet e = rw (← e)
+
+-- ---- the font's number first
+
+module _ (font : List ℕ) where
+  -- a font that is accepted leaves the number to what comes after it
+  pub font-passed : (rest : ℕ) → fontNumber font ≡ 0 → rest ≡ orElse (fontNumber font) rest
+  font-passed rest good = stage-goes-on rest _ _ _ (sym good) refl refl
+
+  pub font-refuses : (n rest : ℕ) → n ≡ fontNumber font → (n ≡ 0 → ⊥) → n ≡ orElse (fontNumber font) rest
+  font-refuses n rest e some = stage-stops n _ rest e some
+
+  pub face-read : (v : View) → v ≡ viewOf font → faceFrom v font ≡ faceOf font
+  unfolding faceOf
+  face-read v same = ap (λ (w : View). faceFrom w font) same
+
+  module _ (v : View) (good : fontNumber font ≡ 0) (same : v ≡ viewOf font) where
+    pub measured : (x : ℤ) (text : List ℕ) → measureWith (faceFrom v font) x text ≡ measureOf font x text
+    unfolding measureWith measureOf
+    measured x text =
+        ap (λ (face : Face). replyFor (measureNumber x (length text)) (lastPen face x text)) (face-read v same)
+        ∙ ap (λ (n : ℕ). replyFor n (lastPen (faceOf font) x text)) (font-passed (measureNumber x (length text)) good)
+
+    module _ (s : Shape) (l : Label) (text : List ℕ) where
+      abbrev call : Call
+      call = record { font = font; label = l; text = text }
+
+      pub number-read : (lent : List ℕ) → numberWith s lent l (length text) ≡ callNumber s lent call
+      unfolding callNumber
+      number-read lent = font-passed (numberWith s lent l (length text)) good
+
+      pub reply-read : (lent : List ℕ) → replyWith (faceFrom v font) s lent l text ≡ replyOf s lent call
+      unfolding replyWith replyOf
+      reply-read lent =
+          ap (λ (face : Face). replyFor (numberWith s lent l (length text)) (lastPen face (l .x) text)) (face-read v same)
+          ∙ ap (λ (n : ℕ). replyFor n (lastPen (faceOf font) (l .x) text)) (number-read lent)
+
+      pub paint-read : (panel : List ℕ) → paintWith (faceFrom v font) s l text panel ≡ paintAfter s call panel
+      unfolding paintAfter paintWith
+      paint-read panel = rw (face-read v same, number-read (length panel ∷ []))
+
+-- ---- a font that is refused
+
+module _ (call : Call) (n : ℕ) (e : n ≡ fontNumber (call .font)) (some : n ≡ 0 → ⊥) where
+  pub number-refused : (s : Shape) (lent : List ℕ) → n ≡ callNumber s lent call
   unfolding callNumber
-  by-font n e h = stage-stops n _ _ e h
+  number-refused s lent = font-refuses (call .font) n _ e some
 
-  pub by-panel : (n : ℕ) → n ≡ fontNumber (call .font) → n ≡ 0 → badPanel s lent ≡ true → 8 ≡ callNumber s lent call
-  unfolding callNumber panelNumber firstOf
-  by-panel n e h bad = stage-goes-on 8 n _ _ e h (stage-stops 8 _ _ (rw bad) (λ z. absurd (eqb-false 8 0 refl z)))
+  pub reply-refused : (s : Shape) (lent : List ℕ) → Refused n ≡ replyOf s lent call
+  unfolding replyOf
+  reply-refused s lent = replies-refused n _ _ (number-refused s lent) some
 
-  pub by-label : (n m : ℕ) → n ≡ fontNumber (call .font) → n ≡ 0 → badPanel s lent ≡ false
-      → m ≡ labelNumber (call .strip) (call .x) (call .y) (call .mode) (length (call .label)) → m ≡ callNumber s lent call
-  unfolding callNumber panelNumber firstOf
-  by-label n m e h good own = stage-goes-on m n _ _ e h (stage-goes-on m 0 _ _ (rw good) refl own)
+  pub paint-refused : (s : Shape) (panel : List ℕ) → panel ≡ paintAfter s call panel
+  unfolding paintAfter
+  paint-refused s panel = rw (← number-refused s (length panel ∷ [])) (rw (ne-eqb n 0 some))
+
+pub measure-refused : (font : List ℕ) (x : ℤ) (text : List ℕ) (n : ℕ) → n ≡ fontNumber font → (n ≡ 0 → ⊥)
+    → Refused n ≡ measureOf font x text
+unfolding measureOf
+measure-refused font x text n e some = replies-refused n _ _ (font-refuses font n _ e some) some
+
+-- ---- 8, and then the label's own numbers
+
+module _ (s : Shape) (lent : List ℕ) (l : Label) (bytes : ℕ) where
+  pub by-panel : badPanel s lent ≡ true → 8 ≡ numberWith s lent l bytes
+  unfolding numberWith panelNumber firstOf
+  by-panel bad = stage-stops 8 _ _ (rw bad) (λ z. absurd (eqb-false 8 0 refl z))
+
+  pub by-label : (n : ℕ) → badPanel s lent ≡ false → n ≡ labelNumber l bytes → n ≡ numberWith s lent l bytes
+  unfolding numberWith panelNumber firstOf
+  by-label n good own = stage-goes-on n 0 _ _ (rw good) refl own
+
+  -- what an accepted number promises
+  pub panel-good : 0 ≡ numberWith s lent l bytes → badPanel s lent ≡ false
+  unfolding numberWith panelNumber firstOf
+  panel-good e = one-rule (badPanel s lent) (stages-passed _ _ (sym e) .0)
+
+  pub label-good : 0 ≡ numberWith s lent l bytes → labelNumber l bytes ≡ 0
+  unfolding numberWith
+  label-good e = stages-passed _ _ (sym e) .1
+
+-- the shorter of two lent slices decides for both
+pub shorter-with : (s : Shape) (a b : ℕ) (l : Label) (bytes : ℕ) → numberWith s (min a b ∷ []) l bytes ≡ numberWith s (a ∷ b ∷ []) l bytes
+unfolding numberWith
+shorter-with s a b l bytes = ap (λ (m : ℕ). orElse m (labelNumber l bytes)) (shorter-number s a b [])

@@ -2,36 +2,38 @@
 use Prim.Native.Nat.{ℕ, _+_, _-_, _*_, _/_, _%_, _<_, _≤_, min}
 use mathlib.Core.Path.{_≡_, sym, ap, ap₂, _∙_}
 use mathlib.Core.List.{List}
+use lib.ListN.{set}
 use native.Mathlib.Nat.{mul-le-mul, zero-add, add-assoc, add-mul, suc-mul, mul-comm, add-sub-of-le, div-lt-iff-lt-mul, le-div-iff-mul-le}
 use native.Mathlib.Numerals.{add-one}
 use native.Mathlib.Omega.{arith}
 use Rattle.words.specs.declared.Effect.{Effect}
 use Rattle.words.specs.declared.Mode.{Mode}
 use Rattle.words.specs.declared.Mode.the-variants.{Paint, Erase, Invert}
-use Rattle.words.specs.Effect.{identity, effectOf, altered, OfWords}
+use Rattle.words.specs.Word.{word}
+use Rattle.words.specs.Effect.{identity, effectOf, applyTo, altered, OfWords}
 use Rattle.words.proofs.Effects.{mode-words}
 use Rattle.words.proofs.Rows.{row-of, word-of-row}
-use Rattle.words.proofs.Altering.{AllWords, altered-idle, altered-words, altered-on, altered-middle}
+use Rattle.words.proofs.Altering.{AllWords, altered-idle, altered-words, altered-on, altered-step}
+use Rattle.words.proofs.Clearing.{Carried}
 use Rattle.fonts.specs.declared.Glyph.{Glyph}
-use Rattle.paint.specs.declared.Shape.{Shape}
-use Rattle.paint.specs.declared.Strip.{Strip}
+use Rattle.fonts.specs.Face.{dotOf}
+use Rattle.fonts.proofs.Dots.{dot-bit, dot-past}
+use Rattle.paint.specs.declared.Stroke.{Stroke}
 use Rattle.paint.specs.declared.Pen.{Pen}
-use Rattle.paint.specs.Pen.{maskFrom, maskAt, pictureEffect}
+use Rattle.paint.specs.Pen.{strokeWords, maskFrom, maskAt, pictureEffect, inRow, onPanel}
 use Rattle.paint.proofs.Marks.{mask-above, mask-under, mask-beside, mask-lt, strip-right-of, strip-left-of}
 
 -- a row times the words of a row, for a panel within its limits
 pub rows-before : (row rowwords : ℕ) → row < 256 → rowwords ≤ 128 → row * rowwords ≤ 32640
 rows-before row rowwords h k = mul-le-mul {n₂ = 255} {m₂ = 128} (omega arith) k
 
-module _ (dot : Glyph → ℕ → ℕ → ℕ) (s : Shape) (strip : Strip) (y : ℕ) (mode : Mode) (pen : Pen) (g : Glyph) where
-  -- the effect on a word, by its row and its place in the row
-  abbrev pub effect-in-row : ℕ → ℕ → Effect
-  effect-in-row row w = effectOf mode (maskFrom dot strip y pen g row (16 * w))
-
-  pub picture-at : (row w : ℕ) → w < s .rowwords → pictureEffect dot s strip y mode pen g (row * s .rowwords + w) ≡ effect-in-row row w
-  unfolding pictureEffect maskAt
-  picture-at row w h =
-      ap₂ (λ (r c : ℕ). effectOf mode (maskFrom dot strip y pen g r (16 * c))) (row-of row (s .rowwords) w h) (word-of-row row (s .rowwords) w h)
+-- the effect on a word, by its row and its place in the row
+pub picture-at : (dot : Glyph → ℕ → ℕ → ℕ) (k : Stroke) (pen : Pen) (g : Glyph) (row w : ℕ) → w < k .rowwords
+    → pictureEffect dot k pen g (row * k .rowwords + w) ≡ effectOf (k .mode) (maskFrom dot k pen g row (16 * w))
+unfolding pictureEffect maskAt
+picture-at dot k pen g row w h =
+    ap₂ (λ (r c : ℕ). effectOf (k .mode) (maskFrom dot k pen g r (16 * c)))
+    (row-of row (k .rowwords) w h) (word-of-row row (k .rowwords) w h)
 
 -- ---- which words a picture leaves alone
 
@@ -40,62 +42,128 @@ no-marks Paint mask e = ap (effectOf Paint) e
 no-marks Erase mask e = ap (effectOf Erase) e
 no-marks Invert mask e = ap (effectOf Invert) e
 
-module _ (dot : Glyph → ℕ → ℕ → ℕ) (s : Shape) (strip : Strip) (y : ℕ) (mode : Mode) (pen : Pen) (g : Glyph)
+module _ {f : Effect → Effect} (way : Carried f) (dot : Glyph → ℕ → ℕ → ℕ) (k : Stroke) (pen : Pen) (g : Glyph)
     (bits : (r j : ℕ) → dot g r j < 2)
     (past : (r j : ℕ) → g .height ≤ r → dot g r j ≡ 0)
-    (some : 0 < s .rowwords)
     (lent : List ℕ) (words : AllWords lent) where
   abbrev effect : ℕ → Effect
-  effect = pictureEffect dot s strip y mode pen g
+  effect i = f (pictureEffect dot k pen g i)
 
-  pub effect-words : (i : ℕ) → OfWords (effect i)
+  -- a word without a mark
+  unmarked : (i : ℕ) → maskAt dot k pen g i ≡ 0 → effect i ≡ identity
+  unfolding pictureEffect
+  unmarked i e = ap f (no-marks (k .mode) _ e) ∙ way .still
+
+  -- a word of a row, by its place in the row
+  unmarked-in-row : (row w : ℕ) → w < k .rowwords → maskFrom dot k pen g row (16 * w) ≡ 0 → effect (row * k .rowwords + w) ≡ identity
+  unmarked-in-row row w h e = ap f (picture-at dot k pen g row w h ∙ no-marks (k .mode) _ e) ∙ way .still
+
+  effect-words : (i : ℕ) → OfWords (effect i)
   unfolding pictureEffect maskAt
-  effect-words i = mode-words mode _ (mask-lt dot strip y pen g (i / s .rowwords) (16 * (i % s .rowwords)) bits)
+  effect-words i =
+      way .words _ (mode-words (k .mode) _ (mask-lt dot k pen g (i / k .rowwords) (16 * (i % k .rowwords)) bits))
+
+  after-words : (from n : ℕ) → AllWords (altered from n effect lent)
+  after-words from n = altered-words from n effect lent effect-words words
 
   -- the rows above it
-  pub above-idle : (rows : ℕ) → rows ≤ y - (2048 + g .ascent) → altered 0 (rows * s .rowwords) effect lent ≡ lent
-  unfolding pictureEffect maskAt
-  above-idle rows h =
-      altered-idle 0 (rows * s .rowwords) effect lent words
+  pub above-idle : (rows : ℕ) → 0 < k .rowwords → rows ≤ k .y - (2048 + g .ascent) → altered 0 (rows * k .rowwords) effect lent ≡ lent
+  unfolding maskAt
+  above-idle rows some h =
+      altered-idle 0 (rows * k .rowwords) effect lent words
       (λ j less.
       let i = 0 + j in
-      let row : i / s .rowwords < rows = div-lt-iff-lt-mul some .1 (rw (zero-add j) less) in
-      no-marks mode _ (sym (mask-above dot strip y pen g (i / s .rowwords) (16 * (i % s .rowwords)) (omega arith))))
+      let row : i / k .rowwords < rows = div-lt-iff-lt-mul some .1 (rw (zero-add j) less) in
+      unmarked i (sym (mask-above dot k pen g (i / k .rowwords) (16 * (i % k .rowwords)) (omega arith))))
 
   -- the rows below it
-  pub under-idle : (end : ℕ) → end ≡ min (s .rows) (y + g .height - (2048 + g .ascent))
-      → altered 0 (end * s .rowwords) effect lent ≡ altered 0 (s .rowwords * s .rows) effect lent
-  unfolding pictureEffect maskAt
-  under-idle end h =
-      let le : end ≤ s .rows = omega arith in
-      let whole : end * s .rowwords + (s .rows - end) * s .rowwords ≡ s .rowwords * s .rows =
-      sym (add-mul end (s .rows - end) (s .rowwords)) ∙ ap (λ (n : ℕ). n * s .rowwords) (add-sub-of-le le) ∙ mul-comm (s .rows) (s .rowwords) in
-      let before = altered 0 (end * s .rowwords) effect lent in
-      sym (altered-idle (0 + end * s .rowwords) ((s .rows - end) * s .rowwords) effect before (altered-words 0 (end * s .rowwords) effect lent effect-words words)
+  pub under-idle : (end : ℕ) → 0 < k .rowwords → end ≡ min (k .rows) (k .y + g .height - (2048 + g .ascent))
+      → altered 0 (end * k .rowwords) effect lent ≡ onPanel effect k lent
+  unfolding maskAt
+  under-idle end some h =
+      let rest = (k .rows - end) * k .rowwords in
+      let le : end ≤ k .rows = omega arith in
+      let whole : end * k .rowwords + rest ≡ strokeWords k =
+      sym (add-mul end (k .rows - end) (k .rowwords)) ∙ ap (λ (n : ℕ). n * k .rowwords) (add-sub-of-le le)
+      ∙ mul-comm (k .rows) (k .rowwords) in
+      sym
+      (altered-idle (0 + end * k .rowwords) rest effect (altered 0 (end * k .rowwords) effect lent) (after-words 0 (end * k .rowwords))
       (λ j less.
-      let i = 0 + end * s .rowwords + j in
-      let from : end ≤ i / s .rowwords = le-div-iff-mul-le some .1 (omega arith) in
-      let upto : i / s .rowwords < s .rows = div-lt-iff-lt-mul some .1 (omega (arith, whole, mul-comm (s .rows) (s .rowwords))) in
-      no-marks mode _ (mask-under dot strip y pen g (i / s .rowwords) (16 * (i % s .rowwords)) past (omega arith))))
-      ∙ sym (altered-on 0 (end * s .rowwords) ((s .rows - end) * s .rowwords) effect lent)
+      let i = 0 + end * k .rowwords + j in
+      let from : end ≤ i / k .rowwords = le-div-iff-mul-le some .1 (omega arith) in
+      let upto : i / k .rowwords < k .rows = div-lt-iff-lt-mul some .1 (omega (arith, whole, mul-comm (k .rows) (k .rowwords))) in
+      unmarked i (mask-under dot k pen g (i / k .rowwords) (16 * (i % k .rowwords)) past (omega arith))))
+      ∙ sym (altered-on 0 (end * k .rowwords) rest effect lent)
       ∙ ap (λ (n : ℕ). altered 0 n effect lent) whole
 
-  -- of one row, the words left and right of the strip
-  pub row-altered : (row first count : ℕ) → first ≡ strip .from / 16 → first + count ≡ (strip .upto + 15) / 16 → first + count ≤ s .rowwords
-      → altered (row * s .rowwords + first) count effect (altered 0 (row * s .rowwords) effect lent) ≡ altered 0 ((row + 1) * s .rowwords) effect lent
-  row-altered row first count starts ends fits =
-      let rest = s .rowwords - (first + count) in
-      let whole : first + count + rest ≡ s .rowwords = omega arith in
-      let next : row * s .rowwords + (first + count + rest) ≡ (row + 1) * s .rowwords =
-      ap (λ (n : ℕ). row * s .rowwords + n) whole ∙ sym (ap (λ (n : ℕ). n * s .rowwords) (add-one row) ∙ suc-mul row (s .rowwords)) in
-      let before = altered 0 (row * s .rowwords) effect lent in
-      sym (altered-middle (row * s .rowwords) first count rest effect before effect-words (altered-words 0 (row * s .rowwords) effect lent effect-words words)
-      (λ j less. picture-at dot s strip y mode pen g row j (omega arith)
-      ∙ no-marks mode _ (mask-beside dot strip y pen g row (16 * j) (λ k small. strip-right-of strip (16 * j + k) (omega arith))))
+  -- of one row, the words left of the strip
+  pub left-idle : (row w : ℕ) → 16 * w ≤ k .strip .from → w ≤ k .rowwords → altered (row * k .rowwords) w effect lent ≡ lent
+  left-idle row w left fits =
+      altered-idle (row * k .rowwords) w effect lent words
       (λ j less.
-      ap effect (add-assoc (row * s .rowwords + first) count j ∙ add-assoc (row * s .rowwords) first (count + j))
-      ∙ picture-at dot s strip y mode pen g row (first + (count + j)) (omega arith)
-      ∙ no-marks mode _ (mask-beside dot strip y pen g row (16 * (first + (count + j))) (λ k small. strip-left-of strip (16 * (first + (count + j)) + k) (omega arith)))))
-      ∙ ap (λ (k : ℕ). altered k (first + count + rest) effect before) (sym (zero-add (row * s .rowwords)))
-      ∙ sym (altered-on 0 (row * s .rowwords) (first + count + rest) effect lent)
-      ∙ ap (λ (n : ℕ). altered 0 n effect lent) next
+      unmarked-in-row row j (omega arith)
+      (mask-beside dot k pen g row (16 * j) (λ i small. strip-right-of (k .strip) (16 * j + i) (omega arith))))
+
+  -- and those right of it
+  pub right-idle : (row end : ℕ) → k .strip .upto ≤ 16 * end → end ≤ k .rowwords
+      → altered (row * k .rowwords) end effect lent ≡ inRow effect k row lent
+  right-idle row end right fits =
+      let at = row * k .rowwords in
+      let rest = k .rowwords - end in
+      let whole : end + rest ≡ k .rowwords = omega arith in
+      sym
+      (altered-idle (at + end) rest effect (altered at end effect lent) (after-words at end)
+      (λ j less.
+      ap effect (add-assoc at end j)
+      ∙ unmarked-in-row row (end + j) (omega arith)
+      (mask-beside dot k pen g row (16 * (end + j)) (λ i small. strip-left-of (k .strip) (16 * (end + j) + i) (omega arith)))))
+      ∙ sym (altered-on at end rest effect lent)
+      ∙ ap (λ (n : ℕ). altered at n effect lent) whole
+
+-- one row more
+pub row-more : (k : Stroke) (effect : ℕ → Effect) (row : ℕ) (now lent : List ℕ) → now ≡ altered 0 (row * k .rowwords) effect lent
+    → inRow effect k row now ≡ altered 0 ((row + 1) * k .rowwords) effect lent
+row-more k effect row now lent same =
+    let at = row * k .rowwords in
+    ap (altered at (k .rowwords) effect) same
+    ∙ ap (λ (i : ℕ). altered i (k .rowwords) effect (altered 0 at effect lent)) (sym (zero-add at))
+    ∙ sym (altered-on 0 at (k .rowwords) effect lent)
+    ∙ ap (λ (n : ℕ). altered 0 n effect lent) (sym (ap (λ (n : ℕ). n * k .rowwords) (add-one row) ∙ suc-mul row (k .rowwords)))
+
+-- ---- what a loop alters with the dots of a font: over the words of a row, and over the rows
+
+module _ {f : Effect → Effect} (way : Carried f) (font : List ℕ) (k : Stroke) (pen : Pen) (g : Glyph) (lent : List ℕ) where
+  abbrev marks : ℕ → Effect
+  marks i = f (pictureEffect (dotOf font) k pen g i)
+
+  pub row-turn : (row w value : ℕ) (now : List ℕ) → w < k .rowwords → now ≡ altered (row * k .rowwords) w marks lent
+      → value ≡ applyTo (f (effectOf (k .mode) (maskFrom (dotOf font) k pen g row (16 * w)))) (word now (row * k .rowwords + w))
+      → set now (row * k .rowwords + w) value ≡ altered (row * k .rowwords) (w + 1) marks lent
+  row-turn row w value now here same becomes =
+      let at = row * k .rowwords in
+      altered-step at w value marks now lent same
+      (becomes ∙ ap (λ (e : Effect). applyTo (f e) (word now (at + w))) (sym (picture-at (dotOf font) k pen g row w here)))
+
+  module _ (words : AllWords lent) where
+    pub row-begins : (row w : ℕ) → w ≡ k .strip .from / 16 → w ≤ k .rowwords → lent ≡ altered (row * k .rowwords) w marks lent
+    row-begins row w first fits =
+        sym (left-idle way (dotOf font) k pen g (dot-bit font g) (dot-past font g) lent words row w (omega arith) fits)
+
+    pub row-ends : (row w end : ℕ) (now : List ℕ) → w ≡ end → end ≡ (k .strip .upto + 15) / 16 → end ≤ k .rowwords
+        → now ≡ altered (row * k .rowwords) w marks lent → now ≡ inRow marks k row lent
+    row-ends row w end now there last fits same =
+        same
+        ∙ ap (λ (n : ℕ). altered (row * k .rowwords) n marks lent) there
+        ∙ right-idle way (dotOf font) k pen g (dot-bit font g) (dot-past font g) lent words row end (omega arith) fits
+
+    pub picture-begins : (row : ℕ) → 0 < k .rowwords → row ≤ k .y - (2048 + g .ascent) → lent ≡ altered 0 (row * k .rowwords) marks lent
+    picture-begins row some first =
+        sym (above-idle way (dotOf font) k pen g (dot-bit font g) (dot-past font g) lent words row some first)
+
+    pub picture-ends : (row end : ℕ) (now : List ℕ) → 0 < k .rowwords → row ≡ end
+        → end ≡ min (k .rows) (k .y + g .height - (2048 + g .ascent))
+        → now ≡ altered 0 (row * k .rowwords) marks lent → now ≡ onPanel marks k lent
+    picture-ends row end now some there last same =
+        same
+        ∙ ap (λ (n : ℕ). altered 0 (n * k .rowwords) marks lent) there
+        ∙ under-idle way (dotOf font) k pen g (dot-bit font g) (dot-past font g) lent words end some last

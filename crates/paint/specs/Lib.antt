@@ -1,4 +1,5 @@
 pub mod Panel
 pub mod Pen
+pub mod Sheet
 pub mod Label
 pub mod Rule

@@ -6,14 +6,11 @@ use lib.Dec.{eqb}
 use Rattle.words.specs.declared.Mode.{Mode}
 use Rattle.words.specs.declared.Mode.the-variants.{Paint, Erase, Invert}
 use Rattle.words.specs.Word.{word, bitOf}
-use Rattle.words.specs.Place.{placeOf}
-use Rattle.words.specs.Effect.{modeOf}
-use Rattle.fonts.specs.Face.{Face, faceOf}
+use Rattle.fonts.specs.Face.{Face, faceOf, stepOf}
 use Rattle.paint.specs.declared.Shape.{Shape}
-use Rattle.paint.specs.declared.Strip.{Strip}
+use Rattle.paint.specs.declared.Stroke.{Stroke}
 use Rattle.paint.specs.declared.Pen.{Pen}
-use Rattle.paint.specs.Panel.{stripOf}
-use Rattle.paint.specs.Pen.{penAt, penAfter, mark}
+use Rattle.paint.specs.Pen.{penAt, penAfter, strokeOf, mark}
 use Rattle.paint.specs.Label.{Call}
 
 -- the dot of a panel in a row and column
@@ -26,14 +23,15 @@ dotUnder Paint picture dot = cond (eqb picture 1) 1 dot
 dotUnder Erase picture dot = cond (eqb picture 1) 0 dot
 dotUnder Invert picture dot = cond (eqb picture 1) (1 - dot) dot
 
--- "Characters are drawn in order": a dot of the panel under the pictures of a label
-unfoldable pub dotUnderLabel : Face → Strip → ℕ → Mode → Pen → List ℕ → ℕ → ℕ → ℕ → ℕ
-dotUnderLabel face strip y mode pen [] row column dot = dot
-dotUnderLabel face strip y mode pen (c ∷ label) row column dot =
+-- "Characters are drawn in order": a dot of the panel under the pictures of a text
+unfoldable pub dotUnderLabel : Face → Stroke → Pen → List ℕ → ℕ → ℕ → ℕ → ℕ
+dotUnderLabel face k pen [] row column dot = dot
+dotUnderLabel face k pen (c ∷ text) row column dot =
     let g = face .glyph c in
-    dotUnderLabel face strip y mode (penAfter pen g) label row column (dotUnder mode (mark (face .dot) strip y pen g row column) dot)
+    let under = dotUnder (k .mode) (mark (face .dot) k pen g row column) dot in
+    dotUnderLabel face k (penAfter pen (stepOf g)) text row column under
 
 -- a dot of the panel after an accepted call
 unfoldable pub dotAfter : Shape → Call → ℕ → ℕ → ℕ → ℕ
 dotAfter s call row column dot =
-    dotUnderLabel (faceOf (call .font)) (stripOf s (call .strip)) (placeOf (call .y)) (modeOf (call .mode)) (penAt (call .x)) (call .label) row column dot
+    dotUnderLabel (faceOf (call .font)) (strokeOf s (call .label)) (penAt (call .label .x)) (call .text) row column dot

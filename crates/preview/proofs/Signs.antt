@@ -1,6 +1,6 @@
 -- A number with a sign: what is asked where one is turned round, and what a text spells.
 use Prim.Native.Nat.{ℕ, zero, suc, _-_, _<_, _≤_}
-use mathlib.Core.Path.{_≡_, refl, sym, ap, _∙_}
+use mathlib.Core.Path.{_≡_, refl, ap, _∙_}
 use mathlib.Core.List.{List, [], _∷_}
 use native.Mathlib.Omega.{arith}
 use borrow.Author.Tests.{lt-ltb, le-ltb, eq-eqb, ne-eqb}
@@ -12,35 +12,35 @@ use mir.Val.{SFits, toZ, ofZ}
 use mir.Facts.{toZ-pos, toZ-ofZ}
 use Rattle.preview.specs.declared.number.Signed.{Signed}
 use Rattle.preview.specs.declared.number.Signed.the-variants.{Number, Other}
-use Rattle.preview.specs.Number.{numberOf, positiveOf, negativeOf, signedOf}
+use Rattle.preview.specs.Number.{largest, least, numberOf, positiveOf, negativeOf, signedOf}
 
-turn : (n : ℕ) → n < 2147483648 → SFits w32 (pos 0 -ℤ pos n)
+turn : (n : ℕ) → n < least → SFits w32 (pos 0 -ℤ pos n)
 turn zero h = record { sfits = omega arith }
 turn (suc n) h = record { sfits = rw (lt-ltb 0 (suc n) (omega arith)) (omega arith) }
 
--- a number below 2147483648 can be turned round
-pub turned : (n : ℕ) → n < 2147483648 → SFits w32 (pos 0 -ℤ toZ w32 n)
+-- a number below least can be turned round
+pub turned : (n : ℕ) → n < least → SFits w32 (pos 0 -ℤ toZ w32 n)
 turned n h = rw (toZ-pos w32 {n = n} h) (turn n h)
 
-pub too-large : (n : ℕ) → 2147483647 < n → Other ≡ positiveOf n
+pub too-large : (n : ℕ) → largest < n → Other ≡ positiveOf n
 unfolding positiveOf
-too-large n h = rw (lt-ltb 2147483647 n h)
+too-large n h = rw (lt-ltb largest n h)
 
-pub positive-is : (n : ℕ) → n ≤ 2147483647 → Number (toZ w32 n) ≡ positiveOf n
+pub positive-is : (n : ℕ) → n ≤ largest → Number (toZ w32 n) ≡ positiveOf n
 unfolding positiveOf
-positive-is n h = rw (toZ-pos w32 {n = n} (omega arith), le-ltb 2147483647 n h)
+positive-is n h = rw (toZ-pos w32 {n = n} (omega arith), le-ltb largest n h)
 
-pub too-small : (n : ℕ) → 2147483648 < n → Other ≡ negativeOf n
+pub too-small : (n : ℕ) → least < n → Other ≡ negativeOf n
 unfolding negativeOf
-too-small n h = rw (lt-ltb 2147483648 n h)
+too-small n h = rw (lt-ltb least n h)
 
-pub least-is : (n : ℕ) → n ≡ 2147483648 → Number (negsuc 2147483647) ≡ negativeOf n
+pub least-is : (n : ℕ) → n ≡ least → Number (negsuc largest) ≡ negativeOf n
 unfolding negativeOf
 least-is n e = rw e
 
-pub negative-is : (n : ℕ) → n < 2147483648 → Number (toZ w32 (ofZ w32 (pos 0 -ℤ toZ w32 n))) ≡ negativeOf n
+pub negative-is : (n : ℕ) → n < least → Number (toZ w32 (ofZ w32 (pos 0 -ℤ toZ w32 n))) ≡ negativeOf n
 unfolding negativeOf
-negative-is n h = rw (toZ-ofZ (turned n h), toZ-pos w32 {n = n} h, le-ltb 2147483648 n (omega arith))
+negative-is n h = rw (toZ-ofZ (turned n h), toZ-pos w32 {n = n} h, le-ltb least n (omega arith))
 
 -- ---- a text, by its first byte
 

@@ -1,16 +1,20 @@
--- A line of labels, by docs/DECISIONS.md, "The preview program": "four decimal numbers with one space behind each, and the text".
-use Prim.Native.Nat.{ℕ, suc, _+_}
+-- A line of labels, by docs/PROGRAMS.md, "preview": "STRIP X Y MODE TEXT, with one space behind each number".
+use Prim.Native.Nat.{ℕ, suc, _+_, _-_}
 use mathlib.Core.Bool.{cond}
 use mathlib.Core.List.{List, [], _∷_}
 use lib.Dec.{ltb, eqb}
-use lib.ListN.{length, take, drop}
+use lib.ListN.{length, getD, take, drop}
 use Rattle.paint.specs.declared.Shape.{Shape}
 use Rattle.paint.specs.Label.{callOf, paintAfter}
 use Rattle.preview.specs.declared.number.Signed.{Signed}
 use Rattle.preview.specs.declared.number.Signed.the-variants.{Number, Other as noNumber}
 use Rattle.preview.specs.declared.label.Line.{Line}
 use Rattle.preview.specs.declared.label.Line.the-variants.{Label, Passed, Other}
-use Rattle.preview.specs.Number.{numberOf, signedOf}
+use Rattle.preview.specs.Number.{none, numberOf, signedOf}
+
+-- "A carriage return at its end is no part of it": where the last byte is 13, all bytes before it
+unfoldable pub withoutReturn : List ℕ → List ℕ
+withoutReturn line = cond (eqb (getD line (length line - 1) 0) 13) (take (length line - 1) line) line
 
 -- the bytes before the first space, which is 32
 unfoldable pub wordLength : List ℕ → ℕ
@@ -24,17 +28,17 @@ wordOf text = take (wordLength text) text
 unfoldable pub behind : List ℕ → List ℕ
 behind text = drop (wordLength text + 1) text
 
--- "the text, whose bytes are the label's codes": what is behind the fourth space
+-- "The bytes of TEXT are the codes of the label": what is behind the fourth space, without the return
 unfoldable pub textOf : List ℕ → List ℕ
-textOf line = behind (behind (behind (behind line)))
+textOf line = behind (behind (behind (behind (withoutReturn line))))
 
--- "one that does not fit its type, and anything else that isn't such a line, is `line N: not a label`"
+-- no label: "The line is not spelled so, or a number does not fit its type"
 unfoldable pub labelFrom : ℕ → Signed → Signed → ℕ → Line
 labelFrom strip noNumber down mode = Other
 labelFrom strip (Number x) noNumber mode = Other
 labelFrom strip (Number x) (Number y) mode =
-    cond (eqb strip 4294967296) Other
-    (cond (eqb mode 4294967296) Other
+    cond (eqb strip none) Other
+    (cond (eqb mode none) Other
     (Label (record { strip = strip; x = x; y = y; mode = mode })))
 
 unfoldable pub labelOf : List ℕ → Line
@@ -45,14 +49,23 @@ labelOf line =
     (signedOf (wordOf (behind (behind line))))
     (numberOf (wordOf (behind (behind (behind line)))))
 
--- "Empty lines, and lines that begin with `#`, are passed over", which is 35. "A line of over 1,000 bytes is not a label, unless it is a comment."
+-- the most bytes of a label's line, without its return
+abbrev pub longest : ℕ
+longest = 1000
+
+-- a line without its return. "Empty lines, and lines that begin with #, are passed over", which is 35. "A line of over 1,000 bytes is no
+-- label, however short its text, unless it is a comment."
+unfoldable pub kindOf : List ℕ → Line
+kindOf [] = Passed
+kindOf (b ∷ bytes) = cond (eqb b 35) Passed (cond (ltb longest (length (b ∷ bytes))) Other (labelOf (b ∷ bytes)))
+
+-- any line
 unfoldable pub lineOf : List ℕ → Line
-lineOf [] = Passed
-lineOf (b ∷ bytes) = cond (eqb b 35) Passed (cond (ltb 1000 (length (b ∷ bytes))) Other (labelOf (b ∷ bytes)))
+lineOf line = kindOf (withoutReturn line)
 
 -- the panel after a line: its label is painted, and any other line paints nothing
 unfoldable pub painted : List ℕ → Shape → Line → List ℕ → List ℕ → List ℕ
-painted font s (Label l) text panel = paintAfter s (callOf font (l .strip) (l .x) (l .y) (l .mode) text) panel
+painted font s (Label l) text panel = paintAfter s (callOf font l text) panel
 painted font s Passed text panel = panel
 painted font s Other text panel = panel
 

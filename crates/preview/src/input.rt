@@ -1,11 +1,12 @@
 // Reading: the lines on standard input, and a file.
+use crate::label::LONGEST;
 use crate::number::part;
 use libc::STDIN_FILENO;
 use reading::BYTES;
 use reading::Input;
 
-// The most bytes of a line, and one more: of a longer line no more are kept.
-pub const LINE: usize = 1_001;
+// The bytes that are kept of a line: no label has so many, also where the last of them is a carriage return.
+pub const LINE: usize = LONGEST + 2;
 
 // The line that is being read: its number, from 1, and how many bytes of it there are so far.
 pub struct Lines {

@@ -4,23 +4,35 @@ use crate::number::Signed;
 use crate::number::decimal;
 use crate::number::part;
 use crate::number::signed_decimal;
+use paint::Label;
 ghost use mathlib.Core.Path.{_≡_};
 ghost use Prim.Native.Nat.{_≤_};
 ghost use lib.ListN.{length};
-ghost use Rattle.preview.specs.Line.{wordLength, wordOf, behind as Line·behind, textOf, labelFrom, labelOf, lineOf};
+ghost use Rattle.preview.specs.Number.{none};
+ghost use Rattle.preview.specs.Line.{withoutReturn, wordLength, wordOf, behind as Line·behind};
+ghost use Rattle.preview.specs.Line.{textOf, labelFrom, labelOf, kindOf, lineOf};
 
-// What a line says of a label, without its text.
-pub struct Label {
-    pub strip: u32,
-    pub x: i32,
-    pub y: i32,
-    pub mode: u32,
-}
+// The most bytes of a label's line, without its return.
+pub const LONGEST: usize = 1_000;
 
 pub enum Line {
     Label(Label),
     Passed,
     Other,
+}
+
+// A line without the carriage return at its end.
+fn without_return(line: &[u8]) -> &[u8]
+    ensures { λ r. ⌜ now r ≡ withoutReturn (now (line .entry)) ⌝ }
+{
+    let length = line.len();
+    if length == 0 {
+        return line;
+    }
+    if line[length - 1] == b'\r' {
+        return part(line, 0, length - 1);
+    }
+    line
 }
 
 // How many bytes stand before the first space.
@@ -55,11 +67,11 @@ fn behind(text: &[u8]) -> &[u8]
 pub fn text_of(line: &[u8]) -> &[u8]
     ensures { λ r. ⌜ now r ≡ textOf (now (line .entry)) ⌝ }
 {
-    behind(behind(behind(behind(line))))
+    behind(behind(behind(behind(without_return(line)))))
 }
 
 fn label_from(strip: u64, left: Signed, down: Signed, mode: u64) -> Line
-    requires { ⌜ (strip ≤ 4294967296) × (mode ≤ 4294967296) ⌝ }
+    requires { ⌜ (strip ≤ none) × (mode ≤ none) ⌝ }
     ensures { λ r. ⌜ r ≡ labelFrom strip left down mode ⌝ }
 {
     let Signed::Number(x) = left else {
@@ -96,9 +108,9 @@ fn label_of(line: &[u8]) -> Line
     label_from(strip, left, down, mode)
 }
 
-// What a line is.
-pub fn line_of(line: &[u8]) -> Line
-    ensures { λ r. ⌜ r ≡ lineOf (now (line .entry)) ⌝ }
+// What a line without its return is.
+fn kind_of(line: &[u8]) -> Line
+    ensures { λ r. ⌜ r ≡ kindOf (now (line .entry)) ⌝ }
 {
     if line.len() == 0 {
         return Line::Passed;
@@ -106,8 +118,15 @@ pub fn line_of(line: &[u8]) -> Line
     if line[0] == b'#' {
         return Line::Passed;
     }
-    if 1_000 < line.len() {
+    if LONGEST < line.len() {
         return Line::Other;
     }
     label_of(line)
+}
+
+// What a line is.
+pub fn line_of(line: &[u8]) -> Line
+    ensures { λ r. ⌜ r ≡ lineOf (now (line .entry)) ⌝ }
+{
+    kind_of(without_return(line))
 }

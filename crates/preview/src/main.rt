@@ -1,21 +1,27 @@
-// Paints the labels of the lines on standard input, and writes a picture of the panel on standard output, and nothing else there.
+// Paints the labels of the lines on standard input, and writes a picture of the panel on standard output, and nothing else there; or the
+// help text, where that is asked for.
+mod help;
 mod input;
 mod label;
+mod message;
 mod number;
 mod picture;
 
 use input::LINE;
 use input::Lines;
 use label::Line;
-use libc::STDERR_FILENO;
 use libc::STDOUT_FILENO;
+use message::say;
+use message::say_line;
+use message::say_refused;
+use message::say_reply;
 use number::NONE;
-use paint::Reply;
 use paint::Shape;
 use picture::PRINTED;
 use reading::BYTES;
 ghost use mathlib.Core.Path.{_≡_};
 ghost use Prim.Native.Nat.{_≤_};
+ghost use Rattle.preview.specs.Number.{none};
 ghost use Rattle.preview.specs.Line.{afterLine};
 
 // The words of the longest font file.
@@ -33,33 +39,7 @@ enum Arguments {
     Wrong,
 }
 
-fn say(text: &[u8]) {
-    io::write_all(STDERR_FILENO, text);
-}
-
-fn say_number(number: u64) {
-    io::print_decimal(STDERR_FILENO, number);
-}
-
-fn say_line(number: u64) {
-    say(b"line ");
-    say_number(number);
-}
-
-fn say_refused(number: u32) {
-    say(b": refused ");
-    say_number(number as u64);
-    say(b"\n");
-}
-
-fn say_reply(number: u64, reply: Reply) {
-    if let Reply::Refused(refusal) = reply {
-        say_line(number);
-        say_refused(refusal);
-    }
-}
-
-// Paints the label of a line, and says where it is refused.
+// Paints the label of a line, and says what there is to say of it.
 fn paint_line(line: &[u8], number: u64, font: &[u16], s: Shape, panel: &mut [u16])
     ensures { λ r. ⌜ now (panel .exit) ≡ afterLine (now (font .entry)) s (now (line .entry)) (now (panel .entry)) ⌝ }
 {
@@ -72,16 +52,7 @@ fn paint_line(line: &[u8], number: u64, font: &[u16], s: Shape, panel: &mut [u16
         }
         Line::Label(label) => {
             let text = label::text_of(line);
-            let reply = paint::paint(
-                font,
-                s,
-                label.strip,
-                label.x,
-                label.y,
-                label.mode,
-                text,
-                panel,
-            );
+            let reply = paint::paint(font, s, label, text, panel);
             say_reply(number, reply);
         }
     }
@@ -162,12 +133,16 @@ fn paint_lines(font: &[u16], s: Shape, panel: &mut [u16]) -> bool {
     false
 }
 
+fn say_written(whole: bool) {
+    if !whole {
+        say(b"write failed\n");
+    }
+}
+
 fn print(s: Shape, panel: &[u16]) {
     let mut printed = [0u8; PRINTED];
     let n = picture::picture(s, panel, &mut printed);
-    if !io::write_all(STDOUT_FILENO, &printed[..n]) {
-        say(b"write failed\n");
-    }
+    say_written(io::write_all(STDOUT_FILENO, &printed[..n]));
 }
 
 // The whole run, with a font that is not refused.
@@ -220,7 +195,7 @@ fn run_file(path: &[u8], s: Shape) {
 
 // Number k of the program's arguments, or NONE.
 fn number_argument(k: usize) -> u64
-    ensures { λ r. ⌜ r ≤ 4294967296 ⌝ }
+    ensures { λ r. ⌜ r ≤ none ⌝ }
 {
     let mut text = io::buffer();
     let n = os::arg(k, &mut text);
@@ -251,6 +226,10 @@ fn read_arguments() -> Arguments {
 }
 
 fn main() {
+    if help::is_asked() {
+        say_written(help::print());
+        return;
+    }
     let told = read_arguments();
     let Arguments::Panel(s) = told else {
         say(b"usage: preview FONT R H W\n");

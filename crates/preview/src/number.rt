@@ -2,10 +2,16 @@
 ghost use mathlib.Core.Path.{_≡_};
 ghost use Prim.Native.Nat.{_≤_};
 ghost use lib.ListN.{take, drop};
-ghost use Rattle.preview.specs.Number.{withDigit, numberOf, positiveOf, negativeOf, signedOf};
+ghost use Rattle.preview.specs.Number.{none, withDigit, numberOf, positiveOf, negativeOf, signedOf};
 
 // What stands for a text that is no number of a u32.
 pub const NONE: u64 = 4_294_967_296;
+
+// The largest number of an i32.
+const LARGEST: u64 = 2_147_483_647;
+
+// The least number of an i32, without its sign.
+const LEAST: u64 = 2_147_483_648;
 
 // What a text is as a number with a sign.
 pub enum Signed {
@@ -29,9 +35,9 @@ pub fn part(text: &[u8], from: usize, count: usize) -> &[u8]
 
 // A number with one more digit, or NONE.
 fn with_digit(n: u64, b: u8) -> u64
-    requires { ⌜ n ≤ 4294967296 ⌝ }
+    requires { ⌜ n ≤ none ⌝ }
     ensures { λ r. ⌜ r ≡ withDigit n b ⌝ }
-    ensures small { λ r. ⌜ r ≤ 4294967296 ⌝ }
+    ensures small { λ r. ⌜ r ≤ none ⌝ }
 {
     if b < b'0' {
         return NONE;
@@ -49,7 +55,7 @@ fn with_digit(n: u64, b: u8) -> u64
 // The number that a text spells in decimal digits, or NONE.
 pub fn decimal(text: &[u8]) -> u64
     ensures { λ r. ⌜ r ≡ numberOf (now (text .entry)) ⌝ }
-    ensures small { λ r. ⌜ r ≤ 4294967296 ⌝ }
+    ensures small { λ r. ⌜ r ≤ none ⌝ }
 {
     if text.len() == 0 {
         return NONE;
@@ -66,7 +72,7 @@ pub fn decimal(text: &[u8]) -> u64
 fn positive(n: u64) -> Signed
     ensures { λ r. ⌜ r ≡ positiveOf n ⌝ }
 {
-    if 2_147_483_647 < n {
+    if LARGEST < n {
         return Signed::Other;
     }
     Signed::Number(n as i32)
@@ -75,11 +81,11 @@ fn positive(n: u64) -> Signed
 fn negative(n: u64) -> Signed
     ensures { λ r. ⌜ r ≡ negativeOf n ⌝ }
 {
-    if 2_147_483_648 < n {
+    if LEAST < n {
         return Signed::Other;
     }
-    if n == 2_147_483_648 {
-        return Signed::Number(-2_147_483_648);
+    if n == LEAST {
+        return Signed::Number(i32::MIN);
     }
     Signed::Number(-(n as i32))
 }

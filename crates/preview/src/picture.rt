@@ -1,13 +1,13 @@
 // The picture of a panel, as a PBM file of the kind P4.
 use paint::Shape;
 ghost use mathlib.Core.Path.{_≡_};
-ghost use Prim.Native.Nat.{_+_, _*_, _≤_, _<_};
+ghost use Prim.Native.Nat.{_+_, _≤_, _<_};
 ghost use mathlib.Core.List.{[], _∷_, _++_};
-ghost use lib.ListN.{length, take, drop};
+ghost use lib.ListN.{length};
 ghost use Rattle.io.specs.Counts.{Counts};
-ghost use Rattle.words.specs.Word.{bytesOf};
 ghost use Rattle.paint.specs.Panel.{panelWords};
-ghost use Rattle.preview.specs.Picture.{digit as Picture·digit, leading, decimal, headerOf, pictureOf, putAt};
+ghost use Rattle.preview.specs.Picture.{mostWords, headerBytes, pictureBytes};
+ghost use Rattle.preview.specs.Picture.{digit as Picture·digit, leading, decimal, headerOf, rowsOf, pictureOf, Put};
 
 // The bytes of the largest panel, and thirteen that a header with two numbers of four digits takes.
 pub const PRINTED: usize = 65_549;
@@ -21,8 +21,7 @@ fn digit(n: usize, unit: usize) -> u8
 
 fn put(out: &mut [u8], at: usize, b: u8) -> usize
     requires { ⌜ at < length (now out) ⌝ }
-    ensures { λ r. ⌜ r ≡ at + 1 ⌝ }
-    ensures out { λ r. ⌜ now (out .exit) ≡ putAt at (b ∷ []) (now (out .entry)) ⌝ }
+    ensures { λ r. ⌜ Put at (b ∷ []) (now (out .entry)) r (now (out .exit)) ⌝ }
 {
     out[at] = b;
     at + 1
@@ -31,9 +30,8 @@ fn put(out: &mut [u8], at: usize, b: u8) -> usize
 // A digit before the last, where the number has one of that unit.
 fn put_leading(out: &mut [u8], at: usize, n: usize, unit: usize) -> usize
     requires { ⌜ (1 ≤ unit) × (at < length (now out)) ⌝ }
-    ensures { λ r. ⌜ r ≡ at + length (leading n unit) ⌝ }
+    ensures { λ r. ⌜ Put at (leading n unit) (now (out .entry)) r (now (out .exit)) ⌝ }
     ensures small { λ r. ⌜ r ≤ at + 1 ⌝ }
-    ensures out { λ r. ⌜ now (out .exit) ≡ putAt at (leading n unit) (now (out .entry)) ⌝ }
 {
     if n < unit {
         return at;
@@ -44,9 +42,8 @@ fn put_leading(out: &mut [u8], at: usize, n: usize, unit: usize) -> usize
 // A number of at most four digits.
 fn put_decimal(out: &mut [u8], at: usize, n: usize) -> usize
     requires { ⌜ at + 4 ≤ length (now out) ⌝ }
-    ensures { λ r. ⌜ r ≡ at + length (decimal n) ⌝ }
+    ensures { λ r. ⌜ Put at (decimal n) (now (out .entry)) r (now (out .exit)) ⌝ }
     ensures small { λ r. ⌜ r ≤ at + 4 ⌝ }
-    ensures out { λ r. ⌜ now (out .exit) ≡ putAt at (decimal n) (now (out .entry)) ⌝ }
 {
     let at = put_leading(out, at, n, 1000);
     let at = put_leading(out, at, n, 100);
@@ -55,10 +52,9 @@ fn put_decimal(out: &mut [u8], at: usize, n: usize) -> usize
 }
 
 fn put_header(s: Shape, out: &mut [u8]) -> usize
-    requires { ⌜ 13 ≤ length (now out) ⌝ }
-    ensures { λ r. ⌜ r ≡ length (headerOf s) ⌝ }
-    ensures small { λ r. ⌜ r ≤ 13 ⌝ }
-    ensures out { λ r. ⌜ now (out .exit) ≡ putAt 0 (headerOf s) (now (out .entry)) ⌝ }
+    requires { ⌜ headerBytes ≤ length (now out) ⌝ }
+    ensures { λ r. ⌜ Put 0 (headerOf s) (now (out .entry)) r (now (out .exit)) ⌝ }
+    ensures small { λ r. ⌜ r ≤ headerBytes ⌝ }
 {
     let at = put(out, 0, b'P');
     let at = put(out, at, b'4');
@@ -71,10 +67,9 @@ fn put_header(s: Shape, out: &mut [u8]) -> usize
 
 // The header and the rows.
 fn put_picture(s: Shape, panel: &[u16], out: &mut [u8]) -> usize
-    requires { ⌜ (panelWords s ≤ length (now panel)) × (panelWords s ≤ 32768) ⌝ }
-    requires { ⌜ 65549 ≤ length (now out) ⌝ }
-    ensures { λ r. ⌜ r ≡ length (headerOf s ++ bytesOf (take (panelWords s) (now (panel .entry)))) ⌝ }
-    ensures out { λ r. ⌜ now (out .exit) ≡ putAt 0 (headerOf s ++ bytesOf (take (panelWords s) (now (panel .entry)))) (now (out .entry)) ⌝ }
+    requires { ⌜ (panelWords s ≤ length (now panel)) × (panelWords s ≤ mostWords) ⌝ }
+    requires { ⌜ pictureBytes ≤ length (now out) ⌝ }
+    ensures { λ r. ⌜ Put 0 (headerOf s ++ rowsOf s (now (panel .entry))) (now (out .entry)) r (now (out .exit)) ⌝ }
 {
     let at = put_header(s, out);
     let rows = words::part(panel, 0, s.panel_words());
@@ -83,8 +78,7 @@ fn put_picture(s: Shape, panel: &[u16], out: &mut [u8]) -> usize
 
 // The picture of a panel comes to stand first in `printed`, whose rest stays.
 pub fn picture(s: Shape, panel: &[u16], printed: &mut [u8; PRINTED]) -> usize
-    ensures { λ r. ⌜ r ≡ length (pictureOf s (now (panel .entry))) ⌝ }
-    ensures printed { λ r. ⌜ now (printed .exit) ≡ pictureOf s (now (panel .entry)) ++ drop (length (pictureOf s (now (panel .entry)))) (now (printed .entry)) ⌝ }
+    ensures { λ r. ⌜ Put 0 (pictureOf s (now (panel .entry))) (now (printed .entry)) r (now (printed .exit)) ⌝ }
     ensures room { λ r. ⌜ Counts r (now (printed .exit)) ⌝ }
 {
     if paint::bad_panel(s, panel.len()) {

@@ -29,12 +29,7 @@ fn no_glyph() -> Glyph {
 fn glyph_of(font: &[u16], code: u32) -> Glyph {
     match fonts::read(font) {
         Reading::Refused(_) => no_glyph(),
-        Reading::Accepted(h) => Glyph::of(
-            h,
-            fonts::pointers(font, h),
-            fonts::widths(font, h),
-            code,
-        ),
+        Reading::Accepted(v) => Glyph::of(font, v, code),
     }
 }
 

@@ -9,36 +9,28 @@ use crate::text::put;
 use crate::text::put_name;
 use crate::text::put_number;
 use crate::text::put_signed;
+use paint::Label;
 use paint::Reply;
 use paint::Shape;
 
 fn refusal(reply: Reply) -> u32 {
     match reply {
         Reply::Refused(number) => number,
-        Reply::Done {
-            pen: _,
-            substitutes: _,
-        } => 0,
+        Reply::Done(_) => 0,
     }
 }
 
 fn last_pen(reply: Reply) -> i32 {
     match reply {
         Reply::Refused(_) => 0,
-        Reply::Done {
-            pen,
-            substitutes: _,
-        } => pen,
+        Reply::Done(finish) => finish.pen,
     }
 }
 
 fn substitutes(reply: Reply) -> u32 {
     match reply {
         Reply::Refused(_) => 0,
-        Reply::Done {
-            pen: _,
-            substitutes,
-        } => substitutes,
+        Reply::Done(finish) => finish.substitutes,
     }
 }
 
@@ -61,21 +53,23 @@ pub fn shape(line: Line, first: usize) -> Shape {
     }
 }
 
-fn measure(line: Line, font: &[u16], label: &[u8]) -> Reply {
-    paint::measure(font, line.signed(0), label)
+// Where a label goes, from the numbers of a line, the first of them number `first`, which is at most 4.
+pub fn label(line: Line, first: usize) -> Label {
+    let k = least(first, 4);
+    Label {
+        strip: line.number(k),
+        x: line.signed(k + 1),
+        y: line.signed(k + 2),
+        mode: line.number(k + 3),
+    }
 }
 
-fn paint(line: Line, font: &[u16], label: &[u8], panel: &mut [u16]) -> Reply {
-    paint::paint(
-        font,
-        shape(line, 0),
-        line.number(3),
-        line.signed(4),
-        line.signed(5),
-        line.number(6),
-        label,
-        panel,
-    )
+fn measure(line: Line, font: &[u16], text: &[u8]) -> Reply {
+    paint::measure(font, line.signed(0), text)
+}
+
+fn paint(line: Line, font: &[u16], text: &[u8], panel: &mut [u16]) -> Reply {
+    paint::paint(font, shape(line, 0), label(line, 3), text, panel)
 }
 
 // Answers a call of this file.

@@ -62,18 +62,9 @@ fn perform(
     let count = registers::narrow(values, line.values, &mut codes);
     let label = text::start(&codes, count);
     let at = label_calls::answer(line, font, label, held, lent, text, at);
-    let at = sheet_calls::answer(
-        line,
-        values,
-        font,
-        label,
-        held,
-        lent,
-        keeps,
-        flips,
-        text,
-        at,
-    );
+    let at = sheet_calls::answer_join(line, values, State { held, at }, keeps, flips, text);
+    let at = sheet_calls::answer_gather(line, font, label, State { held, at }, keeps, flips, text);
+    let at = sheet_calls::answer(line, State { held, at }, lent, keeps, flips, text);
     State { held, at }
 }
 

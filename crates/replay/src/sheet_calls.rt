@@ -1,4 +1,6 @@
 // The calls on sheets: fresh, gather, join, apply.
+use crate::State;
+use crate::label_calls::label;
 use crate::label_calls::put_reply;
 use crate::label_calls::shape;
 use crate::list::Line;
@@ -20,18 +22,8 @@ fn put_refusal(text: &mut [u8; TEXT], at: usize, line: Line, number: u32) -> usi
     put(text, at, b'\n')
 }
 
-fn gather(line: Line, font: &[u16], label: &[u8], keep: &mut [u16], flip: &mut [u16]) -> Reply {
-    sheets::gather(
-        font,
-        shape(line, 1),
-        line.number(4),
-        line.signed(5),
-        line.signed(6),
-        line.number(7),
-        label,
-        keep,
-        flip,
-    )
+fn gather(line: Line, font: &[u16], text: &[u8], keep: &mut [u16], flip: &mut [u16]) -> Reply {
+    sheets::gather(font, shape(line, 1), label(line, 4), text, keep, flip)
 }
 
 // Joins sheet 2 onto sheet 1. Two parts of one array cannot be lent at once where one may be altered, so sheet 2 is first copied to where
@@ -57,33 +49,61 @@ fn join(
     )
 }
 
-// Answers a call of this file.
-pub fn answer(
+// Answers `join`.
+pub fn answer_join(
     line: Line,
     values: &mut [u16; VALUES],
+    state: State,
+    keeps: &mut [u16],
+    flips: &mut [u16],
+    text: &mut [u8; TEXT],
+) -> usize {
+    let held = state.held;
+    if line.command == names::JOIN {
+        return put_refusal(text, state.at, line, join(line, values, held, keeps, flips));
+    }
+    state.at
+}
+
+// Answers `gather`.
+pub fn answer_gather(
+    line: Line,
     font: &[u16],
-    label: &[u8],
-    held: Held,
+    codes: &[u8],
+    state: State,
+    keeps: &mut [u16],
+    flips: &mut [u16],
+    text: &mut [u8; TEXT],
+) -> usize {
+    if line.command != names::GATHER {
+        return state.at;
+    }
+    let held = state.held;
+    let sheet = line.number(0);
+    let keep = registers::lent_words(keeps, held, names::keep_of(sheet));
+    let flip = registers::lent_words(flips, held, names::flip_of(sheet));
+    put_reply(text, state.at, line, gather(line, font, codes, keep, flip))
+}
+
+// Answers `fresh` and `apply`.
+pub fn answer(
+    line: Line,
+    state: State,
     lent: &mut [u16],
     keeps: &mut [u16],
     flips: &mut [u16],
     text: &mut [u8; TEXT],
-    at: usize,
 ) -> usize {
-    if line.command == names::JOIN {
-        return put_refusal(text, at, line, join(line, values, held, keeps, flips));
-    }
+    let held = state.held;
+    let at = state.at;
     let sheet = line.number(0);
     let keep = registers::lent_words(keeps, held, names::keep_of(sheet));
     let flip = registers::lent_words(flips, held, names::flip_of(sheet));
-    let panel = registers::lent_words(lent, held, names::PANEL);
     if line.command == names::FRESH {
         return put_refusal(text, at, line, sheets::fresh(shape(line, 1), keep, flip));
     }
-    if line.command == names::GATHER {
-        return put_reply(text, at, line, gather(line, font, label, keep, flip));
-    }
     if line.command == names::APPLY {
+        let panel = registers::lent_words(lent, held, names::PANEL);
         return put_refusal(
             text,
             at,

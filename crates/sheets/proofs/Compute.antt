@@ -1,9 +1,14 @@
 -- All the definitions of this crate and of those below it, opened at once, so that a worked case computes: `unfolding computing`.
-use Rattle.sheets.specs.Sheet.{lengths, written, freshNumber, freshAfter, joinNumber, joinAfter, applyNumber, applyAfter, gatherReply, gatherAfter, SameSheet}
+use Rattle.sheets.specs.Sheet.{freshNumber, freshAfter, joinNumber, joinAfter, applyNumber, applyAfter, gatherReply, gatherAfter}
+use Rattle.sheets.specs.Sheet.{SameSheet}
 use Rattle.sheets.specs.Calls.{paintAll, paintReplies, gatherAll, gatherReplies}
 use Rattle.sheets.specs.Cases.{sheetFrom, done, smallCu, smallFont}
 use Rattle.paint.proofs.Compute.{computing as below}
 
+unfoldable pub calls : Unit {0}
+unfolding freshNumber freshAfter joinNumber joinAfter applyNumber applyAfter gatherReply gatherAfter SameSheet
+calls = tt
+
 unfoldable pub computing : Unit {0}
-unfolding below lengths written freshNumber freshAfter joinNumber joinAfter applyNumber applyAfter gatherReply gatherAfter SameSheet paintAll paintReplies gatherAll gatherReplies sheetFrom done smallCu smallFont
+unfolding below calls paintAll paintReplies gatherAll gatherReplies sheetFrom done smallCu smallFont
 computing = tt

@@ -1,6 +1,6 @@
 -- Demand 3. For any list of label calls of one panel size, refused ones among them, and fonts differing from call to call:
--- a gathered sheet, applied, is painting in turn; a cut list's sheets join; calls for different strips may change places; two sheets are equal
--- exactly when they treat every panel alike.
+-- a gathered sheet, applied, is painting in turn; a cut list's sheets join; calls for different strips may change places; two sheets
+-- are equal exactly when they treat every panel alike.
 use Prim.Native.Nat.{ℕ, zero, suc, _+_, _<_, _≤_}
 use mathlib.Core.Path.{_≡_, refl, sym, ap, ap₂, _∙_}
 use mathlib.Core.Bool.{Bool, true, false, cond}
@@ -12,29 +12,34 @@ use lib.ListN.{length, take, getD, replicate, length-replicate, getD-replicate}
 use lib.Seq.{ext-getD, length-take-le, getD-take}
 use Rattle.words.specs.declared.Effect.{Effect}
 use Rattle.words.specs.Word.{word}
-use Rattle.words.specs.Effect.{identity, joinOf, applyTo, altered}
+use Rattle.words.specs.Effect.{effect, identity, joinOf, applyTo, altered}
 use Rattle.words.proofs.Effects.{identity-join, same-effect}
 use Rattle.words.proofs.Altering.{AllWords, altered-same, altered-length, from-zero}
+use Rattle.fonts.specs.Face.{faceOf}
 use Rattle.paint.specs.declared.Shape.{Shape}
 use Rattle.paint.specs.declared.Reply.{Reply}
 use Rattle.paint.specs.Panel.{panelWords, badPanel, panelNumber}
 use Rattle.paint.specs.Label.{Call, callNumber, callEffect, paintAfter, lastPen, replyFor, replyOf}
+use Rattle.paint.specs.Sheet.{Sheet, lengths, effectAt}
 use Rattle.paint.proofs.Accepted.{good-panel, just-enough}
-use Rattle.sheets.specs.Sheet.{Sheet, SameSheet, lengths, effectAt, freshAfter, joinAfter, applyAfter, gatherAfter, gatherReply}
+use Rattle.paint.proofs.Slices.{passed-alone}
+use Rattle.sheets.specs.Sheet.{SameSheet, freshAfter, joinAfter, applyAfter, gatherAfter, gatherReply}
 use Rattle.sheets.specs.Calls.{paintAll, gatherAll, paintReplies, gatherReplies, SameForStrips}
 use Rattle.sheets.proofs.Effects.{ownNumber, own-is, callsEffect, calls-words, calls-cut, paint-all}
 use Rattle.sheets.proofs.Exchange.{exchanged}
-use Rattle.sheets.proofs.Slices.{passed-alone}
-use Rattle.sheets.proofs.Holding.{Lent, Holds, holds-itself, held-words, both-pass, fresh-holds, gather-holds, gather-all-holds, join-holds, apply-holds}
+use Rattle.sheets.proofs.Holding.{Lent, Holds, holds-itself, held-words, both-pass}
+use Rattle.sheets.proofs.Holding.{fresh-holds, gather-holds, gather-all-holds, join-holds, apply-holds}
 
 -- a list gathered into a fresh sheet: the sheet holds the list's effect
-gathered : (s : Shape) (calls : List Call) (sheet : Sheet) → Lent s sheet → Holds s (gatherAll s calls (freshAfter s sheet)) (callsEffect s calls)
+gathered : (s : Shape) (calls : List Call) (sheet : Sheet) → Lent s sheet
+    → Holds s (gatherAll s calls (freshAfter s sheet)) (callsEffect s calls)
 gathered s calls sheet lent =
     let all = gather-all-holds s calls (freshAfter s sheet) (λ i. identity) (λ i. (omega arith, omega arith)) (fresh-holds s sheet lent) in
     record { lent = all .lent; effects = λ i less. all .effects i less ∙ identity-join (callsEffect s calls i) (calls-words s calls i) }
 
 -- 1. "a gathered sheet, applied, is painting in turn"
-pub gather-apply : (s : Shape) (calls : List Call) (sheet : Sheet) (panel : List ℕ) → Lent s sheet → badPanel s (length panel ∷ []) ≡ false → AllWords panel
+pub gather-apply : (s : Shape) (calls : List Call) (sheet : Sheet) (panel : List ℕ) → Lent s sheet
+    → badPanel s (length panel ∷ []) ≡ false → AllWords panel
     → applyAfter s (gatherAll s calls (freshAfter s sheet)) panel ≡ paintAll s calls panel
 gather-apply s calls sheet panel lent room words =
     apply-holds s (gatherAll s calls (freshAfter s sheet)) (callsEffect s calls) panel (gathered s calls sheet lent) room
@@ -48,17 +53,25 @@ same-first n p q hp hq same =
     ext-getD 0 (take n p) (take n q) (lp ∙ sym lq)
     (λ i less. let small : i < n = omega arith in getD-take n p i 0 small ∙ same i small ∙ sym (getD-take n q i 0 small))
 
-holds-same : (s : Shape) (a b : Sheet) (e f : ℕ → Effect) → Holds s a e → Holds s b f → ((i : ℕ) → i < panelWords s → e i ≡ f i) → SameSheet s a b
+holds-same : (s : Shape) (a b : Sheet) (e f : ℕ → Effect) → Holds s a e → Holds s b f → ((i : ℕ) → i < panelWords s → e i ≡ f i)
+    → SameSheet s a b
 unfolding SameSheet
-holds-same s a b e f h k same =
-    let alike : (i : ℕ) → i < panelWords s → effectAt a i ≡ effectAt b i = λ i less. h .effects i less ∙ same i less ∙ sym (k .effects i less) in (
-      same-first (panelWords s) (a .keep) (b .keep) (good-panel s _ (h .lent .keep-room) .long) (good-panel s _ (k .lent .keep-room) .long) (λ i less. ap (λ (t : Effect). t .keep) (alike i less)),
-      same-first (panelWords s) (a .flip) (b .flip) (good-panel s _ (h .lent .flip-room) .long) (good-panel s _ (k .lent .flip-room) .long) (λ i less. ap (λ (t : Effect). t .flip) (alike i less)),
-    )
+holds-same s a b e f h k same = (
+  first-alike (a .keep) (b .keep) (h .lent .keep-room) (k .lent .keep-room) (λ i less. ap (λ (t : Effect). t .keep) (alike i less)),
+  first-alike (a .flip) (b .flip) (h .lent .flip-room) (k .lent .flip-room) (λ i less. ap (λ (t : Effect). t .flip) (alike i less)),
+)
+  where
+    first-alike : (p q : List ℕ) → badPanel s (length p ∷ []) ≡ false → badPanel s (length q ∷ []) ≡ false
+        → ((i : ℕ) → i < panelWords s → word p i ≡ word q i) → take (panelWords s) p ≡ take (panelWords s) q
+    first-alike p q hp hq = same-first (panelWords s) p q (good-panel s (length p) hp .long) (good-panel s (length q) hq .long)
+
+    alike : (i : ℕ) → i < panelWords s → effectAt a i ≡ effectAt b i
+    alike i less = h .effects i less ∙ same i less ∙ sym (k .effects i less)
 
 -- 2. "a cut list's sheets join": for every cut
 pub cut-join : (s : Shape) (xs ys : List Call) (whole first second : Sheet) → Lent s whole → Lent s first → Lent s second
-    → SameSheet s (gatherAll s (xs ++ ys) (freshAfter s whole)) (joinAfter s (gatherAll s xs (freshAfter s first)) (gatherAll s ys (freshAfter s second)))
+    → SameSheet s (gatherAll s (xs ++ ys) (freshAfter s whole))
+    (joinAfter s (gatherAll s xs (freshAfter s first)) (gatherAll s ys (freshAfter s second)))
 cut-join s xs ys whole first second lw lf ls =
     holds-same s _ _ (callsEffect s (xs ++ ys)) (λ i. joinOf (callsEffect s xs i) (callsEffect s ys i))
     (gathered s (xs ++ ys) whole lw)
@@ -67,7 +80,8 @@ cut-join s xs ys whole first second lw lf ls =
 
 -- 3. "calls for different strips may change places": the same panel and the same sheet; the replies are below
 module _ (s : Shape) (xs ys : List Call) (same : SameForStrips xs ys) where
-  pub exchange-panel : (panel : List ℕ) → badPanel s (length panel ∷ []) ≡ false → AllWords panel → paintAll s xs panel ≡ paintAll s ys panel
+  pub exchange-panel : (panel : List ℕ) → badPanel s (length panel ∷ []) ≡ false → AllWords panel
+      → paintAll s xs panel ≡ paintAll s ys panel
   exchange-panel panel room words =
       paint-all s xs panel room words
       ∙ altered-same 0 (panelWords s) (callsEffect s xs) (callsEffect s ys) panel (λ j less. exchanged s xs ys same (0 + j))
@@ -80,11 +94,12 @@ module _ (s : Shape) (xs ys : List Call) (same : SameForStrips xs ys) where
 -- ---- replies: each is the call's own, in painting and in gathering, whatever was called before
 
 abbrev pub replyAlone : Call → Reply
-replyAlone call = replyFor (ownNumber call) (lastPen (call .font) (call .x) (call .label))
+replyAlone call = replyFor (ownNumber call) (lastPen (faceOf (call .font)) (call .label .x) (call .text))
 
 reply-alone : (s : Shape) (lent : List ℕ) (call : Call) → 0 ≡ panelNumber s lent → replyOf s lent call ≡ replyAlone call
 unfolding replyOf
-reply-alone s lent call good = ap (λ (n : ℕ). replyFor n (lastPen (call .font) (call .x) (call .label))) (own-is s lent call good)
+reply-alone s lent call good =
+    ap (λ (n : ℕ). replyFor n (lastPen (faceOf (call .font)) (call .label .x) (call .text))) (own-is s lent call good)
 
 still-room : (s : Shape) (call : Call) (panel : List ℕ) → length (paintAfter s call panel) ≡ length panel
 unfolding paintAfter
@@ -94,7 +109,8 @@ still-room s call panel = by-number (eqb (callNumber s (length panel ∷ []) cal
     by-number true = altered-length 0 (callEffect s call) panel (panelWords s)
     by-number false = refl
 
-pub paint-replies : (s : Shape) (calls : List Call) (panel : List ℕ) → badPanel s (length panel ∷ []) ≡ false → paintReplies s calls panel ≡ map replyAlone calls
+pub paint-replies : (s : Shape) (calls : List Call) (panel : List ℕ) → badPanel s (length panel ∷ []) ≡ false
+    → paintReplies s calls panel ≡ map replyAlone calls
 unfolding paintReplies
 paint-replies s [] panel room = refl
 paint-replies s (call ∷ calls) panel room =
@@ -121,7 +137,7 @@ equal-treat-alike s a b la lb same panel room =
     apply-holds s a (effectAt a) panel (holds-itself s a la) room
     ∙ altered-same 0 n (effectAt a) (effectAt b) panel
     (λ j less. ap (effectAt a) (zero-add j)
-    ∙ (λ i. record { keep = first-words n (a .keep) (b .keep) j (same .0) less i; flip = first-words n (a .flip) (b .flip) j (same .1) less i })
+    ∙ ap₂ effect (first-words n (a .keep) (b .keep) j (same .0) less) (first-words n (a .flip) (b .flip) j (same .1) less)
     ∙ ap (effectAt b) (sym (zero-add j)))
     ∙ sym (apply-holds s b (effectAt b) panel (holds-itself s b lb) room)
 
@@ -144,7 +160,8 @@ alike-are-equal s a b la lb alike =
     room : (d : ℕ) → badPanel s (length (replicate n d) ∷ []) ≡ false
     room d = ap (λ (m : ℕ). badPanel s (m ∷ [])) (length-replicate n d) ∙ just-enough s (length (a .keep)) (la .keep-room)
 
-    applied : (sheet : Sheet) → Lent s sheet → (i d : ℕ) → i < n → word (applyAfter s sheet (replicate n d)) i ≡ applyTo (effectAt sheet i) d
+    applied : (sheet : Sheet) → Lent s sheet → (i d : ℕ) → i < n
+        → word (applyAfter s sheet (replicate n d)) i ≡ applyTo (effectAt sheet i) d
     applied sheet lent i d less =
         let long : n ≤ length (replicate n d) = rw (length-replicate n d) (omega arith) in
         ap (λ (p : List ℕ). word p i) (apply-holds s sheet (effectAt sheet) (replicate n d) (holds-itself s sheet lent) (room d))
@@ -153,4 +170,6 @@ alike-are-equal s a b la lb alike =
 
     at : (i d : ℕ) → i < n → d < 65536 → applyTo (effectAt a i) d ≡ applyTo (effectAt b i) d
     at i d less small =
-        sym (applied a la i d less) ∙ ap (λ (p : List ℕ). word p i) (alike (replicate n d) (room d) (all-equal n d small)) ∙ applied b lb i d less
+        sym (applied a la i d less)
+        ∙ ap (λ (p : List ℕ). word p i) (alike (replicate n d) (room d) (all-equal n d small))
+        ∙ applied b lb i d less

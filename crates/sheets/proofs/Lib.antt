@@ -1,6 +1,5 @@
 pub mod Compute
 pub mod Cases
-pub mod Slices
 pub mod Done
 pub mod Gathering
 pub mod Effects

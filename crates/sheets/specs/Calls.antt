@@ -8,7 +8,8 @@ use lib.ListN.{length}
 use Rattle.paint.specs.declared.Shape.{Shape}
 use Rattle.paint.specs.declared.Reply.{Reply}
 use Rattle.paint.specs.Label.{Call, paintAfter, replyOf}
-use Rattle.sheets.specs.Sheet.{Sheet, gatherAfter, gatherReply}
+use Rattle.paint.specs.Sheet.{Sheet}
+use Rattle.sheets.specs.Sheet.{gatherAfter, gatherReply}
 
 -- the calls painted in turn, and their replies
 unfoldable pub paintAll : Shape → List Call → List ℕ → List ℕ
@@ -31,7 +32,7 @@ gatherReplies s (call ∷ calls) sheet = gatherReply s call sheet ∷ gatherRepl
 -- the calls that name strip k, in their order
 unfoldable pub ofStrip : ℕ → List Call → List Call
 ofStrip k [] = []
-ofStrip k (call ∷ calls) = cond (eqb (call .strip) k) (call ∷ ofStrip k calls) (ofStrip k calls)
+ofStrip k (call ∷ calls) = cond (eqb (call .label .strip) k) (call ∷ ofStrip k calls) (ofStrip k calls)
 
 -- "calls for different strips may change places": two lists with the same calls for each strip in the same order. Calls that name no
 -- strip are refused, and may stand anywhere

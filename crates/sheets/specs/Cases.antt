@@ -9,7 +9,8 @@ use Rattle.paint.specs.declared.Shape.{Shape}
 use Rattle.paint.specs.declared.Reply.{Reply}
 use Rattle.paint.specs.declared.Reply.the-variants.{Done, Refused}
 use Rattle.paint.specs.Label.{Call, replyOf, paintAfter}
-use Rattle.sheets.specs.Sheet.{Sheet, freshAfter, joinAfter, applyAfter}
+use Rattle.paint.specs.Sheet.{Sheet}
+use Rattle.sheets.specs.Sheet.{freshAfter, joinAfter, applyAfter}
 use Rattle.sheets.specs.Calls.{gatherAll}
 
 -- what a case does, and what comes of it
@@ -67,7 +68,15 @@ smallFont =
 
 -- "y = 2"; with a mode by its number
 abbrev pub label : ℕ → ℤ → ℕ → List ℕ → Call
-label strip x mode codes = record { font = smallFont; strip = strip; x = x; y = pos 2; mode = mode; label = codes }
+label strip x mode codes =
+    record {
+      font = smallFont;
+      label = record { strip = strip; x = x; y = pos 2; mode = mode };
+      text = codes;
+    }
+
+abbrev pub ends : ℤ → ℕ → Reply
+ends pen substitutes = Done (record { pen = pen; substitutes = substitutes })
 
 abbrev pub zeros : List ℕ
 zeros = words [] 0
@@ -77,21 +86,21 @@ cases =
     -- C1. The conversion program prints from it exactly these 27 words as bytes
     (convert (bytesOf smallCu), prints (bytesOf smallFont))
     -- C2. codes 66 65: word 7 = 0002, word 15 = 000D, word 23 = 0008; pen 5, substitutes 0
-    ∷ (paint (label 31 (pos 1) 0 (66 ∷ 65 ∷ [])), paints (Done (pos 5) 0) (words ((7, 0x0002) ∷ (15, 0x000D) ∷ (23, 0x0008) ∷ []) 0))
+    ∷ (paint (label 31 (pos 1) 0 (66 ∷ 65 ∷ [])), paints (ends (pos 5) 0) (words ((7, 0x0002) ∷ (15, 0x000D) ∷ (23, 0x0008) ∷ []) 0))
     -- C3. the same, strip 32: refused 9
     ∷ (paint (label 32 (pos 1) 0 (66 ∷ 65 ∷ [])), paints (Refused 9) zeros)
     -- C4. code 67: words 7, 15, 23 = 000F; pen 5, substitutes 1
-    ∷ (paint (label 31 (pos 1) 0 (67 ∷ [])), paints (Done (pos 5) 1) (words ((7, 0x000F) ∷ (15, 0x000F) ∷ (23, 0x000F) ∷ []) 0))
+    ∷ (paint (label 31 (pos 1) 0 (67 ∷ [])), paints (ends (pos 5) 1) (words ((7, 0x000F) ∷ (15, 0x000F) ∷ (23, 0x000F) ∷ []) 0))
     -- C5. code 65, x = 3: word 15 = 0001 only; pen 7
-    ∷ (paint (label 31 (pos 3) 0 (65 ∷ [])), paints (Done (pos 7) 0) (words ((15, 0x0001) ∷ []) 0))
+    ∷ (paint (label 31 (pos 3) 0 (65 ∷ [])), paints (ends (pos 7) 0) (words ((15, 0x0001) ∷ []) 0))
     -- C6. code 65, x = -3, strip 0: no dot, pen 1
-    ∷ (paint (label 0 (negsuc 2) 0 (65 ∷ [])), paints (Done (pos 1) 0) zeros)
+    ∷ (paint (label 0 (negsuc 2) 0 (65 ∷ [])), paints (ends (pos 1) 0) zeros)
     -- C7. codes 66 66, Invert: no dot, pen 1
-    ∷ (paint (label 31 (pos 1) 2 (66 ∷ 66 ∷ [])), paints (Done (pos 1) 0) zeros)
+    ∷ (paint (label 31 (pos 1) 2 (66 ∷ 66 ∷ [])), paints (ends (pos 1) 0) zeros)
     -- C8. no codes: no dot, pen 1
-    ∷ (paint (label 31 (pos 1) 0 []), paints (Done (pos 1) 0) zeros)
+    ∷ (paint (label 31 (pos 1) 0 []), paints (ends (pos 1) 0) zeros)
     -- C9. code 68: no dot, pen 3, substitutes 0
-    ∷ (paint (label 31 (pos 1) 0 (68 ∷ [])), paints (Done (pos 3) 0) zeros)
+    ∷ (paint (label 31 (pos 1) 0 (68 ∷ [])), paints (ends (pos 3) 0) zeros)
     -- C10. Fresh sheet, Paint 66 then Erase 66: keep FFF7 at words 15 and 23, FFFF elsewhere, flip 0
     ∷ (
       gather (label 31 (pos 1) 0 (66 ∷ []) ∷ label 31 (pos 1) 1 (66 ∷ []) ∷ []),
@@ -104,9 +113,9 @@ cases =
 unfoldable pub moreCases : List (Deed × Outcome)
 moreCases =
     -- as C5, in strip 30: the picture's last dots would fall into strip 31
-    (paint (label 30 (pos 3) 0 (65 ∷ [])), paints (Done (pos 7) 0) (words ((15, 0x0010) ∷ []) 0))
+    (paint (label 30 (pos 3) 0 (65 ∷ [])), paints (ends (pos 7) 0) (words ((15, 0x0010) ∷ []) 0))
     -- as C6, in strip 1: its dots would fall into strip 0
-    ∷ (paint (label 1 (negsuc 2) 0 (65 ∷ [])), paints (Done (pos 1) 0) zeros)
+    ∷ (paint (label 1 (negsuc 2) 0 (65 ∷ [])), paints (ends (pos 1) 0) zeros)
     -- as C10, cut in two: the sheet of Paint 66, joined by that of Erase 66
     ∷ (
       join (label 31 (pos 1) 0 (66 ∷ []) ∷ []) (label 31 (pos 1) 1 (66 ∷ []) ∷ []),

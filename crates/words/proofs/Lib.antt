@@ -15,4 +15,5 @@ pub mod Passed
 pub mod OneBit
 pub mod Rows
 pub mod Altering
+pub mod Clearing
 pub mod Outcomes

@@ -10,6 +10,7 @@ use Rattle.words.proofs.bit as bit
 use Rattle.words.proofs.not_within as not-within
 use Rattle.words.proofs.place_of_word as place-of-word
 use Rattle.words.proofs.past as past
+use Rattle.words.proofs.least as least
 use Rattle.words.proofs.put_bit as put-bit
 use Rattle.words.proofs.outside as outside
 use Rattle.words.proofs.place_of as place-of
@@ -72,6 +73,9 @@ not-within-one κs a r o e e′ p q = p ∙ sym q
 
 pub place-of-word-one : OneReply 0 place-of-word.Kinds.ps place-of-word.Kinds.r place-of-word.Reads.Post
 place-of-word-one κs a r o e e′ p q = p ∙ sym q
+
+pub least-one : OneReply 0 least.Kinds.ps least.Kinds.r least.Reads.Post
+least-one κs a r o e e′ p q = p ∙ sym q
 
 pub past-one : OneReply 0 past.Kinds.ps past.Kinds.r past.Reads.Post
 past-one κs a r o e e′ p q = p ∙ sym q

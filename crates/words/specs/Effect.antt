@@ -53,6 +53,13 @@ abbrev pub joinOf : Effect → Effect → Effect
 joinOf first second =
     effect (bitAnd (first .keep) (second .keep)) (bitXor (bitAnd (first .flip) (second .keep)) (second .flip))
 
+-- the effect that only clears what another does not keep: what joining that other does to the keep of a sheet
+abbrev pub clearing : Effect → Effect
+clearing e = effect (e .keep) 0
+
+abbrev pub cleared : (ℕ → Effect) → ℕ → Effect
+cleared e i = clearing (e i)
+
 -- "Applied, each word d becomes (d AND keep) XOR flip."
 abbrev pub applyTo : Effect → ℕ → ℕ
 applyTo e d = bitXor (bitAnd d (e .keep)) (e .flip)

@@ -1,3 +1,4 @@
+pub mod Lent
 pub mod Word
 pub mod Search
 pub mod Refusal

@@ -199,7 +199,8 @@ pub fn place_of(x: i32) -> usize
     (x + 2048) as usize
 }
 
-fn least(a: usize, b: usize) -> usize
+// The smaller of two numbers.
+pub fn least(a: usize, b: usize) -> usize
     ensures { λ r. ⌜ r ≡ min a b ⌝ }
 {
     if a < b { a } else { b }

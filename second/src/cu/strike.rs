@@ -33,7 +33,7 @@ impl Picture<'_> {
 }
 
 impl<'a> Strike<'a> {
-    pub fn of(file: &'a CuFile<'a>, origin: Origin) -> Strike<'a> {
+    pub(super) fn of(file: &'a CuFile<'a>, origin: Origin) -> Strike<'a> {
         let mut pictures = BTreeMap::new();
         // The letter A has a dot at the origin, so the font's box may begin with that dot.
         let mut font_box = DotBox::of_dot(0, 0);

@@ -167,7 +167,7 @@ pub fn program_input(random: &mut Random, turn: usize) -> Vec<u8> {
 
 /// One, two or three bytes more than the program reads; sometimes a good file in all else.
 fn too_many_bytes(random: &mut Random, turn: usize) -> Vec<u8> {
-    let mut bytes = if turn.is_multiple_of(2) {
+    let mut bytes = if turn % 2 == 0 {
         bytes_from_words(&file_of_most_bytes(random).words())
     } else {
         vec![random.byte(); 65_536]

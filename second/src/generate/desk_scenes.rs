@@ -30,6 +30,7 @@ impl Scenes for DeskScenes {
         scene.line("deskcheck");
         measure_at_random(random, &font, &mut scene);
         measure_at_an_edge(random, turn, &mut scene);
+        words_into_any_room(random, turn, bytes.len() / 2, &mut scene);
         if bytes.len() < 100 && random.one_in(20) {
             scene.show(&["file"]);
         }
@@ -88,4 +89,19 @@ fn measure_at_an_edge(random: &mut Random, turn: usize, scene: &mut Scene) {
     let length = EDGES_OF_LENGTH[turn / EDGES_OF_X.len() % EDGES_OF_LENGTH.len()];
     let label: Vec<u8> = (0..length).map(|_| random.byte()).collect();
     scene.measure("deskmeasure", x, &label);
+}
+
+/// An output a word too short, none at all, just enough, a few words longer and any, in turn, so
+/// that each sort of file has all of them. What it holds before shows which words stay.
+fn words_into_any_room(random: &mut Random, turn: usize, words: usize, scene: &mut Scene) {
+    let room = match turn % 5 {
+        0 => words.saturating_sub(1),
+        1 => 0,
+        2 => words,
+        3 => words + 1 + random.below(4),
+        _ => random.below(words + 40),
+    };
+    scene.set("out", &vec![random.word(); room]);
+    scene.line("words");
+    scene.show(&["out"]);
 }

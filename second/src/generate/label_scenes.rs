@@ -19,7 +19,7 @@ pub struct LabelScenes {
 impl Scenes for LabelScenes {
     fn next(&mut self, random: &mut Random, number: usize) -> Scene {
         let mut scene = Scene::default();
-        if number.is_multiple_of(4) {
+        if number % 4 == 0 {
             self.change_font(random, number / 4, &mut scene);
         }
         let font = self.font.take().expect("a font was made for this call");

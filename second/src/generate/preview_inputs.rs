@@ -22,18 +22,18 @@ pub struct PreviewInput {
 /// are given are used in turn.
 pub fn preview_input(random: &mut Random, number: usize, fonts: &[Vec<u8>]) -> PreviewInput {
     let turn = number / 10;
-    let made = if number.is_multiple_of(2) && !fonts.is_empty() {
+    let made = if number % 2 == 0 && !fonts.is_empty() {
         aimed(&fonts[number / 4 % fonts.len()])
     } else {
         good_font(random)
     };
-    let good = if number.is_multiple_of(4) {
+    let good = if number % 4 == 0 {
         roomy_shape(random)
     } else {
         small_shape(random)
     };
     let shape = match number % 10 {
-        7 | 8 if turn.is_multiple_of(3) => bad_shape(random, good),
+        7 | 8 if turn % 3 == 0 => bad_shape(random, good),
         _ => good,
     };
     let font = match number % 10 {
@@ -74,13 +74,13 @@ fn aimed(bytes: &[u8]) -> MadeFont {
 
 /// A font that is refused for each of its numbers in turn, 14 among them.
 fn refused_bytes(random: &mut Random, turn: usize) -> Vec<u8> {
-    let made = if turn.is_multiple_of(9) {
+    let made = if turn % 9 == 0 {
         good_font(random)
     } else {
         refused_font(random, turn)
     };
     let mut bytes = bytes_from_words(&made.words);
-    if turn.is_multiple_of(9) {
+    if turn % 9 == 0 {
         bytes.push(random.byte());
     }
     bytes
@@ -103,7 +103,8 @@ fn lines(random: &mut Random, shape: Shape, made: &MadeFont) -> Vec<u8> {
     let mut text = Vec::new();
     for _ in 0..random.between(0, 24) {
         let call = good_call(random, shape, made);
-        text.extend(any_line(random, call));
+        text.extend(any_line(random, call, made));
+        text.extend(random.pick::<&[u8]>(&[b"", b"", b"", b"\r", b"\r\r"]));
         text.push(b'\n');
     }
     if random.one_in(2) {
@@ -112,14 +113,15 @@ fn lines(random: &mut Random, shape: Shape, made: &MadeFont) -> Vec<u8> {
     text
 }
 
-fn any_line(random: &mut Random, call: Call) -> Vec<u8> {
-    match random.below(12) {
+fn any_line(random: &mut Random, call: Call, made: &MadeFont) -> Vec<u8> {
+    match random.below(14) {
         0 | 1 => spelt(&refused_call(random, call)),
         2 => no_label(random, &call),
         3 => limit_numbers(random, &call),
         4 => passed_over(random, &call),
-        5 => of_length(random, &call),
-        6 => without_text(random, call),
+        5 | 6 => of_length(random, &call),
+        7 => without_text(random, call),
+        8 => spelt(&with_codes_outside(random, call, made)),
         _ => spelt(&call),
     }
 }
@@ -218,12 +220,35 @@ fn passed_over(random: &mut Random, call: &Call) -> Vec<u8> {
     }
 }
 
-/// A line at the limit of lines and past it.
+/// A line at the limit of lines and past it, in which a carriage return may stand where the
+/// limit is or at the end. The line is a label that is too long, or one with zeros before it.
 fn of_length(random: &mut Random, call: &Call) -> Vec<u8> {
     let mut line = spelt(call);
-    let lengths = [LINE_LIMIT - 1, LINE_LIMIT, LINE_LIMIT + 1, 1_500, 70_000];
-    line.resize(random.pick(&lengths), b'1');
+    let near = LINE_LIMIT + random.below(5) - 1;
+    let length = random.pick(&[near, near, near, 1_500, 70_000]);
+    if random.one_in(2) {
+        line.resize(length, b'1');
+    } else {
+        line.splice(0..0, vec![b'0'; length - line.len()]);
+    }
+    let places = [None, Some(LINE_LIMIT), Some(length - 1)];
+    if let Some(byte) = random.pick(&places).and_then(|place| line.get_mut(place)) {
+        *byte = b'\r';
+    }
     line
+}
+
+/// The label with codes put in that lie below the font's least or above its greatest.
+fn with_codes_outside(random: &mut Random, mut call: Call, made: &MadeFont) -> Call {
+    let is_outside = |&code: &u8| !(made.min..=made.max).contains(&i64::from(code));
+    let outside: Vec<u8> = (0..=255).filter(is_outside).collect();
+    if !outside.is_empty() {
+        for _ in 0..random.between(1, 3) {
+            let place = random.below(call.label.len() + 1);
+            call.label.insert(place, random.pick(&outside));
+        }
+    }
+    call
 }
 
 /// A label with no text, with the space before it or without.

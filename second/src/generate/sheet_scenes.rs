@@ -99,7 +99,7 @@ impl Start {
 fn with_fonts(calls: &[FontCall], scene: &mut Scene, perform: impl Fn(&mut Scene, &Call)) {
     let mut before: Option<&Rc<MadeFont>> = None;
     for FontCall { font, call } in calls {
-        if !before.is_some_and(|before| Rc::ptr_eq(before, font)) {
+        if !matches!(before, Some(before) if Rc::ptr_eq(before, font)) {
             scene.set("font", &font.words);
         }
         perform(scene, call);
@@ -133,7 +133,7 @@ fn one_list(random: &mut Random, shape: Shape, calls: &[FontCall], scene: &mut S
 /// Fresh, join and apply with bad shapes, for which the slices may be long enough, and with
 /// one slice too short.
 fn refused_calls(random: &mut Random, shape: Shape, font: &MadeFont, scene: &mut Scene) {
-    let slice_maker = random.pick(&[good_slice, long_slice]);
+    let slice_maker = random.pick::<SliceMaker>(&[good_slice, long_slice]);
     set_all_slices(random, shape, slice_maker, scene);
     let bad = bad_shape(random, shape);
     scene.fresh(1, bad);

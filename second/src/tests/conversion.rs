@@ -144,13 +144,13 @@ fn compare_absent_codes(written: &[u16], font: &Font, rasters: &[Raster]) {
 
 fn convert_and_compare(cu: &[u16]) -> bool {
     let mut output = vec![0xEEEE; 70_000];
-    let Ok(written) = convert(cu, &mut output) else {
-        assert!(output.iter().all(|&word| word == 0xEEEE));
-        return false;
-    };
+    let converted = convert(cu, &mut output);
+    let written = converted.unwrap_or(0);
     assert!(output[written..].iter().all(|&word| word == 0xEEEE));
-    compare(cu, &output[..written]);
-    true
+    if converted.is_ok() {
+        compare(cu, &output[..written]);
+    }
+    converted.is_ok()
 }
 
 #[test]

@@ -1,5 +1,6 @@
 //! Generated lists are lists, and they reach every refusal.
 
+use std::cmp::Ordering;
 use std::collections::BTreeSet;
 
 use super::answers_to;
@@ -8,7 +9,7 @@ use crate::cu::program;
 use crate::desk::measure_label;
 use crate::generate::sheet_scenes::{ONE_LIST, ONE_LIST_ENDS};
 use crate::generate::{program_inputs, write_list, Kind};
-use crate::list::{parse, Command};
+use crate::list::{parse, Command, Register};
 use crate::refusal::number_of;
 
 pub fn generated(kind: Kind, seed: u64, count: usize) -> String {
@@ -74,7 +75,7 @@ fn every_refusal_of_a_conversion_appears_and_no_other() {
     let coverage = Coverage::of(answers.as_bytes()).unwrap();
     assert_eq!(coverage.numbers("convert"), [0, 20, 21, 22, 23, 24, 26, 27]);
     assert_eq!(coverage.numbers("paint"), [0]);
-    for only_here in ["program", "deskcheck", "deskmeasure"] {
+    for only_here in ["program", "deskcheck", "deskmeasure", "words"] {
         assert!(coverage.numbers(only_here).is_empty(), "{only_here}");
     }
 }
@@ -87,7 +88,9 @@ fn every_refusal_of_the_desk_appears_and_no_other() {
     assert_eq!(coverage.numbers("deskcheck"), of_a_font);
     let of_a_label = [0, 1, 2, 3, 4, 5, 6, 7, 10, 11, 14];
     assert_eq!(coverage.numbers("deskmeasure"), of_a_label);
-    for name in KINDS.iter().filter(|name| !name.starts_with("desk")) {
+    assert_eq!(coverage.numbers("words"), [0, 14, 27]);
+    let others = KINDS.iter().filter(|name| !name.starts_with("desk"));
+    for name in others.filter(|&&name| name != "words") {
         assert!(coverage.numbers(name).is_empty(), "{name}");
     }
 }
@@ -156,6 +159,34 @@ fn the_desk_is_handed_pens_and_labels_at_their_limits_and_past_them() {
             answered.any(|pair| pair == (length, number)),
             "{length} bytes"
         );
+    }
+}
+
+/// For each call of `words`: whether its bytes are odd in number, and how the room for the words
+/// compares with their number.
+fn desk_rooms() -> BTreeSet<(bool, Ordering)> {
+    let (mut bytes, mut room) = (0, 0);
+    let mut rooms = BTreeSet::new();
+    for line in generated(Kind::Desk, 1980, 1_000).lines() {
+        match parse(line).unwrap().expect("every line has a command") {
+            Command::SetFile(file) => bytes = file.len(),
+            Command::SetWords(Register::Out, words) => room = words.len(),
+            Command::Words => {
+                rooms.insert((bytes % 2 == 1, room.cmp(&(bytes / 2))));
+            }
+            _ => (),
+        }
+    }
+    rooms
+}
+
+#[test]
+fn the_desk_is_lent_too_few_words_just_enough_and_more_for_any_bytes() {
+    let rooms = desk_rooms();
+    for odd in [false, true] {
+        for room in [Ordering::Less, Ordering::Equal, Ordering::Greater] {
+            assert!(rooms.contains(&(odd, room)), "odd: {odd}, room: {room:?}");
+        }
     }
 }
 

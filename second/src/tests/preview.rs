@@ -5,7 +5,8 @@ use std::collections::BTreeSet;
 use crate::bits::bytes_from_words;
 use crate::generate::preview_inputs;
 use crate::panel::Shape;
-use crate::preview::{arguments, preview, Written};
+use crate::preview::{arguments, preview, Written, HELP};
+use crate::refusal::MESSAGES;
 
 const C1: [u16; 27] = [
     0x9000, 0x0041, 0x0044, 0x0004, 0xFFFF, 0xFFFF, 0x0004, 0x0003, 0x000E, 0x0002, 0x0001, 0x0000,
@@ -57,7 +58,10 @@ fn lines_are_counted_and_passed_over() {
     let written = answer(b"# a comment\n\n32 0 0 0 A\n0 1024 0 0 A\n0 0 -1025 0\n0 0 0 3 A\nA");
     assert_eq!(
         written.errors,
-        "line 3: refused 9\nline 4: refused 10\nline 5: refused 10\nline 6: refused 12\n\
+        "line 3: refused 9: strip over 31\n\
+         line 4: refused 10: x or y not -1024 to 1023\n\
+         line 5: refused 10: x or y not -1024 to 1023\n\
+         line 6: refused 12: mode over 2\n\
          line 7: not a label\n"
     );
     assert_eq!(written.picture, last_words([0; 3]));
@@ -68,11 +72,17 @@ fn what_is_a_label() {
     for good in [
         "0 0 0 0",
         "0 0 0 0 ",
-        "0 0 0 0  ",
         "00 -0 -00 000000000000 A",
-        "0 -1 1 2 A B",
+        "0 -1 1 2 AB",
+        "0 0 0 0\r",
+        "\r",
+        "#\r",
     ] {
         assert_eq!(answer(good.as_bytes()).errors, "", "{good:?}");
+    }
+    for with_a_code_outside in ["0 0 0 0  ", "0 -1 1 2 A B", "0 0 0 0 #\r"] {
+        let expected = "line 1: codes shown as the dummy: 1\n";
+        assert_eq!(answer(with_a_code_outside.as_bytes()).errors, expected);
     }
     for bad in [
         "0",
@@ -86,7 +96,8 @@ fn what_is_a_label() {
         "0 0 - 0",
         "0 --1 0 0",
         "0 0 0 0\tA",
-        "0 0 0 0\r",
+        "0 0 0 0\r\r",
+        "\r\r",
         "4294967296 0 0 0",
         "0 2147483648 0 0",
         "0 0 -2147483649 0",
@@ -95,10 +106,10 @@ fn what_is_a_label() {
         assert_eq!(written.errors, "line 1: not a label\n", "{bad:?}");
     }
     for (refused, number) in [
-        ("4294967295 0 0 0", 9),
-        ("0 2147483647 0 0", 10),
-        ("0 0 -2147483648 0", 10),
-        ("0 0 0 4294967295", 12),
+        ("4294967295 0 0 0", "9: strip over 31"),
+        ("0 2147483647 0 0", "10: x or y not -1024 to 1023"),
+        ("0 0 -2147483648 0", "10: x or y not -1024 to 1023"),
+        ("0 0 0 4294967295", "12: mode over 2"),
     ] {
         let expected = format!("line 1: refused {number}\n");
         assert_eq!(answer(refused.as_bytes()).errors, expected);
@@ -106,13 +117,48 @@ fn what_is_a_label() {
 }
 
 #[test]
+fn codes_that_the_font_does_not_have_are_counted() {
+    let written = answer(b"31 1 2 0 C\n31 9 2 0 CA@\r\n31 1 2 1 CCD");
+    assert_eq!(
+        written.errors,
+        "line 1: codes shown as the dummy: 1\n\
+         line 2: codes shown as the dummy: 2\n\
+         line 3: codes shown as the dummy: 2\n"
+    );
+    let refused = answer(b"32 1 2 0 CC");
+    assert_eq!(refused.errors, "line 1: refused 9: strip over 31\n");
+}
+
+#[test]
+fn one_carriage_return_ends_a_line() {
+    let plain = answer(b"# A\n\n31 1 2 0 BA\n32 0 0 0 A\nA");
+    let returns = answer(b"# A\r\n\r\n31 1 2 0 BA\r\n32 0 0 0 A\r\nA\r");
+    assert_eq!(returns, plain);
+    let second_return = answer(b"31 1 2 0 BA\r\r");
+    assert_eq!(
+        second_return.errors,
+        "line 1: codes shown as the dummy: 1\n"
+    );
+    assert_eq!(
+        answer(b"31 1 2 0 \rBA").errors,
+        "line 1: codes shown as the dummy: 1\n"
+    );
+}
+
+#[test]
 fn long_lines() {
     let line = |length: usize| [b"0 0 0 0 ".to_vec(), vec![b'A'; length - 8]].concat();
     assert_eq!(answer(&line(72)).errors, "");
-    assert_eq!(answer(&line(73)).errors, "line 1: refused 11\n");
-    assert_eq!(answer(&line(1_000)).errors, "line 1: refused 11\n");
+    let too_long = "line 1: refused 11: label over 64 bytes\n";
+    assert_eq!(answer(&line(73)).errors, too_long);
+    assert_eq!(answer(&line(1_000)).errors, too_long);
     assert_eq!(answer(&line(1_001)).errors, "line 1: not a label\n");
     assert_eq!(answer(&[b'#'; 70_000]).errors, "");
+    let ended = |length, end: &[u8]| answer(&[line(length), end.to_vec()].concat()).errors;
+    assert_eq!(ended(1_000, b"\r"), too_long);
+    for (length, end) in [(1_000, b"\r\r"), (1_000, b"\rA"), (1_001, b"\r\n")] {
+        assert_eq!(ended(length, end), "line 1: not a label\n");
+    }
 }
 
 #[test]
@@ -127,12 +173,27 @@ fn fonts_and_shapes_come_before_the_lines() {
         assert_eq!(written.picture, []);
         written.errors
     };
-    assert_eq!(errors(Some(&font), bad_shape), "panel: refused 8\n");
-    assert_eq!(errors(Some(&font[..52]), bad_shape), "font: refused 5\n");
-    assert_eq!(errors(Some(&font[..53]), bad_shape), "font: refused 14\n");
-    assert_eq!(errors(Some(&[]), SHAPE), "font: refused 1\n");
+    assert_eq!(
+        errors(Some(&font), bad_shape),
+        "panel: refused 8: panel size out of range, or its memory too short\n"
+    );
+    assert_eq!(
+        errors(Some(&font[..52]), bad_shape),
+        "font: refused 5: font's length is not what its header says\n"
+    );
+    assert_eq!(
+        errors(Some(&font[..53]), bad_shape),
+        "font: refused 14: odd number of bytes\n"
+    );
+    assert_eq!(
+        errors(Some(&[]), SHAPE),
+        "font: refused 1: font file too short for its header\n"
+    );
     assert_eq!(errors(Some(&[0; 65_537]), SHAPE), "font: too long\n");
-    assert_eq!(errors(Some(&[0; 65_536]), SHAPE), "font: refused 2\n");
+    assert_eq!(
+        errors(Some(&[0; 65_536]), SHAPE),
+        "font: refused 2: not a plain or kerned strike file\n"
+    );
     assert_eq!(errors(None, SHAPE), "font: cannot be read\n");
 }
 
@@ -145,9 +206,22 @@ fn what_the_arguments_are() {
         &["f", "8", "-3", "4"],
         &["f", "8", "", "4"],
         &["f", "4294967296", "3", "4"],
+        &["--help", "--help"],
     ] {
         assert_eq!(arguments(bad), None);
     }
+    assert_eq!(
+        arguments(&["--help", "8", "3", "4"]),
+        Some(("--help", SHAPE))
+    );
+}
+
+#[test]
+fn the_help_begins_as_the_usage_and_has_short_lines() {
+    assert!(HELP.starts_with("usage: preview FONT R H W < LINES > PICTURE\n\n"));
+    assert!(HELP.ends_with("painted all the same.\n"));
+    assert_eq!(HELP.lines().count(), 14);
+    assert!(HELP.lines().all(|line| line.len() <= 140));
 }
 
 #[test]
@@ -162,19 +236,61 @@ fn every_reply_appears_and_no_other() {
         for line in errors.lines() {
             let (place, reply) = line.split_once(": ").expect("a place and a reply");
             let place = place.split(' ').next().expect("a word");
+            let reply = without_count(reply);
             replies.insert(format!("{place} {reply}"));
         }
     }
-    let fonts = [1, 2, 3, 4, 5, 6, 7, 14].map(|number| format!("font refused {number}"));
-    let labels = [9, 10, 11, 12].map(|number| format!("line refused {number}"));
+    let refused = |place: &str, numbers: &[u32]| -> Vec<String> {
+        let rows = MESSAGES.iter().filter(|row| numbers.contains(&row.0));
+        rows.map(|(number, message)| format!("{place} refused {number}: {message}"))
+            .collect()
+    };
     let others = [
         "done",
         "font cannot be read",
         "font too long",
         "line not a label",
-        "panel refused 8",
+        "line codes shown as the dummy: 1",
+        "line codes shown as the dummy: more",
     ];
-    let expected = fonts.into_iter().chain(labels);
-    let expected = expected.chain(others.map(str::to_string)).collect();
-    assert_eq!(replies, expected);
+    let expected = [
+        refused("font", &[1, 2, 3, 4, 5, 6, 7, 14]),
+        refused("panel", &[8]),
+        refused("line", &[9, 10, 11, 12]),
+        others.map(str::to_string).to_vec(),
+    ];
+    assert_eq!(replies, expected.concat().into_iter().collect());
+}
+
+fn without_count(reply: &str) -> String {
+    match reply.strip_prefix("codes shown as the dummy: ") {
+        Some("1") | None => reply.to_string(),
+        Some(_) => "codes shown as the dummy: more".to_string(),
+    }
+}
+
+/// Of the lines of the gate's inputs: for each length near the limit, with a carriage return as
+/// byte 1,001 or without, and one at the end or without, there is a line.
+#[test]
+fn the_lines_reach_the_limit_with_returns_and_without() {
+    let mut found = BTreeSet::new();
+    let mut double = 0;
+    for input in preview_inputs(1980, 240, &[bytes_from_words(&C1)]) {
+        for line in input.lines.split(|&byte| byte == b'\n') {
+            if (999..=1_003).contains(&line.len()) {
+                let at_limit = line.get(1_000) == Some(&b'\r');
+                found.insert((line.len(), at_limit, line.ends_with(b"\r")));
+            }
+            double += usize::from(line.ends_with(b"\r\r"));
+        }
+    }
+    let expected = (999..=1_003).flat_map(|length| match length {
+        999 | 1_000 => vec![(length, false, false), (length, false, true)],
+        1_001 => vec![(length, false, false), (length, true, true)],
+        _ => [(false, false), (false, true), (true, false), (true, true)]
+            .map(|(at_limit, at_end)| (length, at_limit, at_end))
+            .to_vec(),
+    });
+    assert_eq!(found, expected.collect());
+    assert!(double > 100, "{double}");
 }

@@ -16,9 +16,10 @@ enum-known-reply-2 c = search needs
 
 returns : tie.Need-returns
 returns c =
-    let known = c .before .reply .given in
-    let pen = toZ-ofZ {w = w32} {z = known .0 .0} (record { sfits = c .known-told .given .0 .1 }) in
-    (λ i. record { number = 0; pen = pen i; substitutes = known .0 .1 .0 }) ∙ ap answerOf (sym (known .1))
+    let known = c .before .before .reply .given in
+    let finish = known .0 .0 in
+    let pen = toZ-ofZ {w = w32} {z = finish .pen} (record { sfits = c .struct-told .given .0 .1 }) in
+    (λ i. record { number = 0; pen = pen i; substitutes = finish .substitutes }) ∙ ap answerOf (sym (known .1))
 
 returns-2 : tie.Need-returns-2
 returns-2 c = ap answerOf (sym (c .before .reply2 .given .1))

@@ -26,7 +26,8 @@ returns-2 : tie.Need-returns-2
 unfolding deskMeasure
 returns-2 c =
     let a = c .before .before .before .before .before in
-    let reply = c .measure-bytes .ensures ∙ ap (λ (z : ℤ). measureOf (wordsOf (now (a .args .font))) z (now (a .args .label))) (toZ-ofZ (a .fits .x)) in
+    let same = toZ-ofZ (a .fits .x) in
+    let reply = c .measure-bytes .ensures ∙ ap (λ (z : ℤ). measureOf (wordsOf (now (a .args .font))) z (now (a .args .text))) same in
     search chain
 
 pub measured-spec : {M : Type 1} → statement M

@@ -18,7 +18,8 @@ answer-of-requires c κs = search needs
 returns : tie.Need-returns
 returns c =
     let a = c .before .before .before .before in
-    let reply = c .before .measured .ensures ∙ ap (λ (z : ℤ). deskMeasure (now (a .args .font)) z (now (a .args .label))) (toZ-ofZ (a .fits .x)) in
+    let same = toZ-ofZ (a .fits .x) in
+    let reply = c .before .measured .ensures ∙ ap (λ (z : ℤ). deskMeasure (now (a .args .font)) z (now (a .args .text))) same in
     c .answer-of .ensures ∙ ap answerOf reply
 
 pub pailradish-measure-spec : {M : Type 1} → statement M

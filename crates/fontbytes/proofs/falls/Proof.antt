@@ -1,10 +1,11 @@
--- `fontbytes::falls` meets its contract. The invariant: all the pointers fall exactly when those that are left do, after the pointer before.
+-- `fontbytes::falls` meets its contract.
+-- The invariant: all the pointers fall exactly when those that are left do, after the pointer before.
 -- Assumes nothing.
 use Prim.Native.Nat.{_+_, _-_, _≤_}
 use mathlib.Core.Path.{_≡_, refl, sym, ap, _∙_}
 use native.Mathlib.Omega.{arith}
 use denote.Ref.{now}
-use lib.ListN.{length, drop}
+use lib.ListN.{drop}
 use Rattle.words.specs.Word.{wordsOf}
 use Rattle.words.proofs.Bytes.{words-length}
 use Rattle.fonts.specs.Reading.{fallsFrom}

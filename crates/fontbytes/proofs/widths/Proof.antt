@@ -5,20 +5,17 @@ use borrow.Author.Needs.{needs}
 use Rattle.fontbytes.proofs.widths.Statement.{statement}
 use Rattle.fontbytes.proofs.widths.Tie as tie
 
-pointers-at-requires : tie.Need-pointers-at-requires
-pointers-at-requires c κs = search needs
-
 codes-requires : tie.Need-codes-requires
 codes-requires c κs = search needs
+
+pointers-at-requires : tie.Need-pointers-at-requires
+pointers-at-requires c κs = search needs
 
 add-part-in : tie.Need-add-part-in
 add-part-in c = search needs
 
 add-part-in-2 : tie.Need-add-part-in-2
 add-part-in-2 c = search needs
-
-codes-requires-2 : tie.Need-codes-requires-2
-codes-requires-2 c κs = search needs
 
 add-part-in-3 : tie.Need-add-part-in-3
 add-part-in-3 c = search needs
@@ -34,11 +31,10 @@ pub widths-spec : {M : Type 1} → statement M
 widths-spec =
     tie.close
     (tie.spec
-    pointers-at-requires
     codes-requires
+    pointers-at-requires
     add-part-in
     add-part-in-2
-    codes-requires-2
     add-part-in-3
     part-in-requires
     returns)

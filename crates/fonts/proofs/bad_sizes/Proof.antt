@@ -1,13 +1,17 @@
 -- `fonts::bad_sizes` meets its contract, by the tests that it makes.
 -- Assumes nothing.
-use mathlib.Core.Path.{ap, _∙_}
-use borrow.Author.Needs.{needs}
+use mathlib.Core.Path.{_≡_, ap, _∙_}
 use Rattle.words.specs.Refusal.{notWithin}
-use Rattle.fonts.specs.Reading.{badSizes}
 use Rattle.fonts.specs.Strike.{height}
+use Rattle.fonts.specs.Reading.{badSizes}
 use Rattle.words.proofs.Chain.{chain, as-chain}
+use borrow.Author.Needs.{needs}
 use Rattle.fonts.proofs.bad_sizes.Statement.{statement}
 use Rattle.fonts.proofs.bad_sizes.Tie as tie
+
+-- the moment: the height is tested
+tall-is : (c : tie.After-not-within) → c .not-within .result ≡ notWithin 1 256 (height (c .before .before .args .b))
+tall-is c = c .not-within .ensures ∙ ap (notWithin 1 256) (c .before .height .ensures .0)
 
 height-requires : tie.Need-height-requires
 height-requires c κs = search needs
@@ -18,7 +22,7 @@ not-within-requires c κs = search needs
 returns : tie.Need-returns
 unfolding badSizes
 returns c =
-    let height = c .before .not-within .ensures ∙ ap (notWithin 1 256) (c .before .before .height .ensures) in
+    let tall = tall-is (c .before) in
     as-chain (search chain depth 20)
 
 cast-not-within : tie.Need-cast-not-within
@@ -30,22 +34,19 @@ not-within-requires-2 c κs = search needs
 returns-2 : tie.Need-returns-2
 unfolding badSizes
 returns-2 c =
-    let height = c .before .before .before .before .not-within .ensures ∙ ap (notWithin 1 256) (c .before .before .before .before .before .height .ensures) in
+    let tall = tall-is (c .before .before .before .before) in
     as-chain (search chain depth 20)
 
 returns-3 : tie.Need-returns-3
 unfolding badSizes
 returns-3 c =
-    let height = c .before .before .before .before .before .before .not-within .ensures ∙ ap (notWithin 1 256) (c .before .before .before .before .before .before .before .height .ensures) in
+    let tall = tall-is (c .before .before .before .before .before .before) in
     as-chain (search chain depth 20)
-
-bad-box-requires : tie.Need-bad-box-requires
-bad-box-requires c κs = search needs
 
 returns-4 : tie.Need-returns-4
 unfolding badSizes
 returns-4 c =
-    let height = c .before .before .before .before .before .before .before .not-within .ensures ∙ ap (notWithin 1 256) (c .before .before .before .before .before .before .before .before .height .ensures) in
+    let tall = tall-is (c .before .before .before .before .before .before) in
     as-chain (search chain depth 20)
 
 pub bad-sizes-spec : {M : Type 1} → statement M
@@ -59,5 +60,4 @@ bad-sizes-spec =
     not-within-requires-2
     returns-2
     returns-3
-    bad-box-requires
     returns-4)

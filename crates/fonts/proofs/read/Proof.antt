@@ -1,30 +1,44 @@
 -- `fonts::read` meets its contract, by its one test.
 -- Assumes nothing.
-use mathlib.Core.Path.{ap}
-use borrow.Author.Needs.{needs}
-use Rattle.fonts.specs.Reading.{accepted, readingOf}
+use Prim.Native.Nat.{ℕ}
+use mathlib.Core.Path.{_≡_, ap, _∙_}
+use mathlib.Core.List.{List}
+use denote.Ref.{now}
+use Rattle.fonts.specs.Reading.{numberBy, fontNumber, accepted, readingOf}
+use Rattle.fonts.specs.declared.View.{View}
 use Rattle.fonts.specs.declared.Reading.the-variants.{Accepted, Refused}
 use Rattle.words.proofs.Chain.{chain-of-replies}
+use borrow.Author.Needs.{needs}
 use Rattle.fonts.proofs.read.Statement.{statement}
 use Rattle.fonts.proofs.read.Tie as tie
 
-number-requires : tie.Need-number-requires
-number-requires c κs = search needs
+-- the moment: the font has its number
+abbrev font-of : tie.After-number-by → List ℕ
+font-of c = now (c .before .before .before .args .font)
 
-returns : tie.Need-returns
-unfolding readingOf accepted
-returns c =
-    let refused = ap Refused (c .before .number .ensures) in
-    search chain-of-replies
+number-is : (c : tie.After-number-by) → c .number-by .result ≡ fontNumber (font-of c)
+unfolding fontNumber
+number-is c = c .number-by .ensures ∙ ap (λ (v : View). numberBy v (font-of c)) (c .before .of .ensures)
 
 of-requires : tie.Need-of-requires
 of-requires c κs = search needs
 
+number-by-requires : tie.Need-number-by-requires
+number-by-requires c κs = search needs
+
+returns : tie.Need-returns
+unfolding readingOf accepted
+returns c =
+    let number = number-is (c .before) in
+    let refused = ap Refused number in
+    search chain-of-replies
+
 returns-2 : tie.Need-returns-2
 unfolding readingOf accepted
 returns-2 c =
-    let read = ap Accepted (c .of .ensures) in
+    let number = number-is (c .before) in
+    let read = ap Accepted (c .before .before .of .ensures) in
     search chain-of-replies
 
 pub read-spec : {M : Type 1} → statement M
-read-spec = tie.close (tie.spec number-requires returns of-requires returns-2)
+read-spec = tie.close (tie.spec of-requires number-by-requires returns returns-2)

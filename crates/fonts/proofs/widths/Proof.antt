@@ -6,20 +6,17 @@ use Rattle.fonts.specs.Strike.{widthsOf}
 use Rattle.fonts.proofs.widths.Statement.{statement}
 use Rattle.fonts.proofs.widths.Tie as tie
 
-pointers-at-requires : tie.Need-pointers-at-requires
-pointers-at-requires c κs = search needs
-
 codes-requires : tie.Need-codes-requires
 codes-requires c κs = search needs
+
+pointers-at-requires : tie.Need-pointers-at-requires
+pointers-at-requires c κs = search needs
 
 add-part : tie.Need-add-part
 add-part c = omega arith
 
 add-part-2 : tie.Need-add-part-2
 add-part-2 c = omega arith
-
-codes-requires-2 : tie.Need-codes-requires-2
-codes-requires-2 c κs = search needs
 
 add-part-3 : tie.Need-add-part-3
 add-part-3 c = search needs
@@ -33,13 +30,4 @@ returns c = cc
 
 pub widths-spec : {M : Type 1} → statement M
 widths-spec =
-    tie.close
-    (tie.spec
-    pointers-at-requires
-    codes-requires
-    add-part
-    add-part-2
-    codes-requires-2
-    add-part-3
-    part-requires
-    returns)
+    tie.close (tie.spec codes-requires pointers-at-requires add-part add-part-2 add-part-3 part-requires returns)

@@ -11,6 +11,14 @@ use Rattle.paint.proofs.Marks.{begun, not-begun, begins}
 use Rattle.paint.proofs.aligned.Statement.{statement}
 use Rattle.paint.proofs.aligned.Tie as tie
 
+-- the dots of the picture's row
+module _ (start : tie.Start) where
+  abbrev dot : ℕ → ℕ
+  dot = dotOf (now (start .args .font)) (start .args .g) (start .args .row)
+
+  bits : (j : ℕ) → dot j < 2
+  bits = dot-bit (now (start .args .font)) (start .args .g) (start .args .row)
+
 cast-dots : tie.Need-cast-dots
 cast-dots c = search needs
 
@@ -20,20 +28,16 @@ dots-requires c κs = search needs
 returns : tie.Need-returns
 unfolding dotsOf
 returns c =
-    let a = c .before .before .before .args in
-    let dot : ℕ → ℕ = dotOf (now (a .font)) (a .g) (a .row) in
-    let bits : (j : ℕ) → dot j < 2 = dot-bit (now (a .font)) (a .g) (a .row) in
-    c .dots .ensures ∙ begun dot bits (a .left) (a .base) (omega arith)
+    let start = c .before .before .before in
+    c .dots .ensures ∙ begun (dot start) (bits start) (start .args .left) (start .args .base) (omega arith)
 
 sub-shift : tie.Need-sub-shift
 sub-shift c = search needs
 
 returns-2 : tie.Need-returns-2
 returns-2 c =
-    let a = c .before .before .before .args in
-    let dot : ℕ → ℕ = dotOf (now (a .font)) (a .g) (a .row) in
-    let bits : (j : ℕ) → dot j < 2 = dot-bit (now (a .font)) (a .g) (a .row) in
-    not-begun dot bits (a .left) (a .base) (omega arith)
+    let start = c .before .before .before in
+    not-begun (dot start) (bits start) (start .args .left) (start .args .base) (omega arith)
 
 dots-requires-2 : tie.Need-dots-requires-2
 dots-requires-2 c κs = search needs
@@ -47,10 +51,10 @@ shr-result c = search needs
 returns-3 : tie.Need-returns-3
 unfolding dotsOf
 returns-3 c =
-    let a = c .before .before .before .before .args in
-    let dot : ℕ → ℕ = dotOf (now (a .font)) (a .g) (a .row) in
-    let bits : (j : ℕ) → dot j < 2 = dot-bit (now (a .font)) (a .g) (a .row) in
-    ap (λ (w : ℕ). w / 2 ^ (a .left - a .base)) (c .dots2 .ensures) ∙ begins dot bits (a .left) (a .base) (omega arith) (omega arith)
+    let start = c .before .before .before .before in
+    let a = start .args in
+    ap (λ (w : ℕ). w / 2 ^ (a .left - a .base)) (c .dots2 .ensures)
+    ∙ begins (dot start) (bits start) (a .left) (a .base) (omega arith) (omega arith)
 
 pub aligned-spec : {M : Type 1} → statement M
 aligned-spec =

@@ -21,13 +21,19 @@ loop-holds : tie.Need-loop-holds Inv-loop μ-loop
 unfolding wordTo
 loop-holds c = (omega arith, refl)
 
+-- the bits that the loop makes
+module _ (b : tie.At-loop Inv-loop μ-loop) where
+  abbrev bit : ℕ → ℕ
+  bit k = inStrip (b .before .args .strip) (b .before .args .start + k)
+
+  bits : (k : ℕ) → bit k < 2
+  bits k = in-strip-bit (b .before .args .strip) (b .before .args .start + k)
+
 mul-word : tie.Need-mul-word Inv-loop μ-loop
 mul-word c =
     let b = c .before in
-    let a = b .before .args in
-    let f : ℕ → ℕ = λ k. inStrip (a .strip) (a .start + k) in
-    let bits : (k : ℕ) → f k < 2 = λ k. in-strip-bit (a .strip) (a .start + k) in
-    omega (arith, one-bit-fits f bits (b .loop .j) (b .loop .word) (f (b .loop .j)) (omega arith) (b .loop .inv .1) refl)
+    let j = b .loop .j in
+    omega (arith, one-bit-fits (bit b) (bits b) j (b .loop .word) (bit b j) (omega arith) (b .loop .inv .1) refl)
 
 add-in-strip : tie.Need-add-in-strip Inv-loop μ-loop
 add-in-strip c = omega arith
@@ -38,10 +44,8 @@ in-strip-requires c κs = search needs
 add-word : tie.Need-add-word Inv-loop μ-loop
 add-word c =
     let b = c .before .before in
-    let a = b .before .args in
-    let f : ℕ → ℕ = λ k. inStrip (a .strip) (a .start + k) in
-    let bits : (k : ℕ) → f k < 2 = λ k. in-strip-bit (a .strip) (a .start + k) in
-    record { fits = one-bit-fits f bits (b .loop .j) (b .loop .word) (c .in-strip .result) (omega arith) (b .loop .inv .1) (c .in-strip .ensures) }
+    let made = c .in-strip in
+    record { fits = one-bit-fits (bit b) (bits b) (b .loop .j) _ (made .result) (omega arith) (b .loop .inv .1) (made .ensures) }
 
 add-j : tie.Need-add-j Inv-loop μ-loop
 add-j c = omega arith
@@ -52,8 +56,8 @@ loop-less c = omega arith
 loop-again : tie.Need-loop-again Inv-loop μ-loop
 loop-again c =
     let b = c .before .before in
-    let a = b .before .args in
-    (omega arith, one-bit-more (λ k. inStrip (a .strip) (a .start + k)) (b .loop .j) (b .loop .word) (c .in-strip .result) (b .loop .inv .1) (c .in-strip .ensures))
+    let made = c .in-strip in
+    (omega arith, one-bit-more (bit b) (b .loop .j) (b .loop .word) (made .result) (b .loop .inv .1) (made .ensures))
 
 returns : tie.Need-returns Inv-loop μ-loop
 unfolding wordOf

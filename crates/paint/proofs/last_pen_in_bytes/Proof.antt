@@ -1,28 +1,52 @@
--- `paint::last_pen_in_bytes` meets its contract: the header and the tables are those that the font's bytes spell.
+-- `paint::last_pen_in_bytes` meets its contract: the steps by the tables in bytes are those over what the font shows.
 -- Assumes nothing.
 use Prim.Native.Nat.{ℕ}
-use mathlib.Core.Path.{ap, ap₂, _∙_}
+use mathlib.Core.Path.{_≡_, ap, _∙_}
+use mathlib.Core.List.{List}
 use denote.Ref.{now}
-use mir.Facts.{toZ-ofZ}
 use Rattle.words.specs.Word.{wordsOf}
-use Rattle.fonts.specs.declared.Glyph.{Glyph}
-use Rattle.fontbytes.proofs.Spelt.{pointers-spelt, widths-spelt}
+use Rattle.fonts.specs.Face.{Face, faceFrom}
 use Rattle.paint.specs.declared.Pen.{Pen}
+use Rattle.paint.specs.Pen.{penAlong, speltSteps, stepsOf}
 use Rattle.paint.specs.Label.{lastPen}
-use Rattle.paint.specs.Pen.{penAt, penAlong}
-use Rattle.paint.proofs.Labels.{glyph-is}
+use Rattle.paint.proofs.Along.{along-same, spelt-steps, pen-starts}
 use borrow.Author.Needs.{needs}
 use Rattle.paint.proofs.last_pen_in_bytes.Statement.{statement}
 use Rattle.paint.proofs.last_pen_in_bytes.Tie as tie
 
-header-requires : tie.Need-header-requires
-header-requires c κs = search needs
+-- the tables have been found
+module _ (found : tie.After-dummy-advance) where
+  abbrev call : tie.Start
+  call = found .before .before .before .before .before .before
+
+  abbrev bytes : List ℕ
+  bytes = now (call .args .font)
+
+  abbrev face : Face
+  face = faceFrom (call .args .v) (wordsOf bytes)
+
+  abbrev pointers : List ℕ
+  pointers = now (found .before .before .pointers .result)
+
+  abbrev widths : List ℕ
+  widths = now (found .before .widths .result)
+
+  abbrev dummy : ℕ
+  dummy = found .dummy-advance .result
+
+  steps : (c : ℕ) → speltSteps (call .args .v .header) pointers widths dummy c ≡ stepsOf face c
+  steps =
+      spelt-steps (call .args .v) bytes pointers widths dummy
+      (found .before .before .pointers .ensures) (found .before .widths .ensures) (found .dummy-advance .ensures)
 
 pointers-requires : tie.Need-pointers-requires
 pointers-requires c κs = search needs
 
 widths-requires : tie.Need-widths-requires
 widths-requires c κs = search needs
+
+dummy-advance-requires : tie.Need-dummy-advance-requires
+dummy-advance-requires c κs = search needs
 
 at-requires : tie.Need-at-requires
 at-requires c κs = search needs
@@ -33,14 +57,12 @@ pen-along-bytes-requires c κs = search needs
 returns : tie.Need-returns
 unfolding lastPen
 returns c =
-    let a = c .before .before .before .before .before .before .before in
-    let start = c .before .at .ensures .0 ∙ ap penAt (toZ-ofZ (a .fits .x)) in
-    let h = c .before .before .before .before .header in
-    let bytes = now (a .args .font) in
-    let table = ap wordsOf (c .before .before .before .pointers .ensures) ∙ pointers-spelt (h .result) bytes in
-    let entries = ap wordsOf (c .before .before .widths .ensures) ∙ widths-spelt (h .result) bytes in (
+    let found = c .before .before in
+    let text = now (call found .args .text) in
+    let start = pen-starts _ (call found .args .x) (c .before .at .ensures .0) (call found .fits .x) in (
       c .pen-along-bytes .ensures .0
-          ∙ ap₂ (λ (g : ℕ → Glyph) (p : Pen). penAlong g p (now (a .args .label))) (glyph-is _ _ _ (wordsOf bytes) (h .ensures) table entries) start,
+          ∙ along-same _ _ (steps found) text _
+          ∙ ap (λ (p : Pen). penAlong (stepsOf (face found)) p text) start,
       c .pen-along-bytes .ensures .1,
     )
 
@@ -48,9 +70,9 @@ pub last-pen-in-bytes-spec : {M : Type 1} → statement M
 last-pen-in-bytes-spec =
     tie.close
     (tie.spec
-    header-requires
     pointers-requires
     widths-requires
+    dummy-advance-requires
     at-requires
     pen-along-bytes-requires
     returns)

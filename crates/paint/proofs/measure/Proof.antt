@@ -1,57 +1,59 @@
--- `paint::measure` meets its contract: where no number refuses it, the pen goes along the label.
+-- `paint::measure` meets its contract: the number of a refused font, or what measuring with its view answers.
 -- Assumes nothing.
 use Prim.Native.Nat.{ℕ}
-use mathlib.Core.Path.{sym, ap, ap₂, _∙_}
-use native.Mathlib.Omega.{arith}
+use mathlib.Core.Path.{sym, ap, _∙_}
+use mathlib.Core.List.{List}
 use lib.IntN.{ℤ}
-use lib.ListN.{length}
-use denote.Ref.{now}
 use mir.Facts.{toZ-ofZ}
-use Rattle.words.specs.Place.{numberAt}
-use Rattle.paint.specs.declared.Reply.the-variants.{Done}
-use Rattle.paint.specs.declared.Pen.{Pen}
-use Rattle.paint.specs.Label.{lastPen, measureNumber, measureOf}
-use Rattle.paint.proofs.Replies.{replies-refused, replies-done, measure-short}
+use denote.Ref.{now}
+use Rattle.fonts.specs.Face.{faceFrom}
+use Rattle.fonts.proofs.Readings.{read-refused, read-accepted}
+use Rattle.paint.specs.Label.{measureWith}
+use Rattle.paint.proofs.Replies.{measure-refused, measured}
 use borrow.Author.Needs.{needs}
 use Rattle.paint.proofs.measure.Statement.{statement}
 use Rattle.paint.proofs.measure.Tie as tie
 
-number-requires : tie.Need-number-requires
-number-requires c κs = search needs
+-- the call, from the moment when the font has been read
+module _ (read : tie.After-read) where
+  abbrev call : tie.Start
+  call = read .before .before .before
 
-measure-number-requires : tie.Need-measure-number-requires
-measure-number-requires c κs = search needs
+  abbrev font : List ℕ
+  font = now (call .args .font)
+
+  abbrev text : List ℕ
+  text = now (call .args .text)
+
+read-requires : tie.Need-read-requires
+read-requires c κs = search needs
+
+enum-known-number : tie.Need-enum-known-number
+enum-known-number c = search needs
+
+enum-known-v : tie.Need-enum-known-v
+enum-known-v c = search needs
+
+measure-read-requires : tie.Need-measure-read-requires
+measure-read-requires c κs = search needs
 
 returns : tie.Need-returns
-unfolding measureOf
 returns c =
-    let a = c .before .before .before .before .before in
-    let number = c .before .measure-number .ensures ∙ ap₂ (λ (n : ℕ) (z : ℤ). measureNumber n z (length (now (a .args .label)))) (c .before .before .number .ensures) (toZ-ofZ (a .fits .x)) in
-    replies-refused _ _ _ number (c .if1 .taken)
-
-last-pen-requires : tie.Need-last-pen-requires
-last-pen-requires c κs = measure-short _ _ _ (sym (c .before .measure-number .ensures) ∙ c .if1 .left)
-
-done-requires : tie.Need-done-requires
-done-requires c κs = search needs
+    let read = c .before .before .before in
+    let what = read-refused (font read) _ (sym (read .read .ensures) ∙ c .before .number .given .1) in
+    measure-refused (font read) (call read .args .x) (text read) _ (what .0) (what .1)
 
 returns-2 : tie.Need-returns-2
-unfolding measureOf
 returns-2 c =
-    let b = c .before .before in
-    let a = b .before .before .before .before .before in
-    let same = toZ-ofZ (a .fits .x) in
-    let number = b .before .measure-number .ensures ∙ ap₂ (λ (n : ℕ) (z : ℤ). measureNumber n z (length (now (a .args .label)))) (b .before .before .number .ensures) same in
-    let pen = c .before .last-pen .ensures .0 ∙ ap (λ (z : ℤ). lastPen (now (a .args .font)) z (now (a .args .label))) same in
-    replies-done (c .done .result) _ _ (sym (b .if1 .left) ∙ number) (c .done .ensures ∙ ap (λ (p : Pen). Done (numberAt (p .place)) (p .substitutes)) pen)
+    let told = c .before .before in
+    let read = told .before .before in
+    let what = read-accepted (font read) _ (sym (read .read .ensures) ∙ told .v .given .1) in
+    let face = faceFrom (told .v .given .0 .0) (font read) in
+    c .measure-read .ensures
+    ∙ ap (λ (z : ℤ). measureWith face z (text read)) (toZ-ofZ (call read .fits .x))
+    ∙ measured (font read) _ (what .0) (what .1) (call read .args .x) (text read)
 
 pub measure-spec : {M : Type 1} → statement M
 measure-spec =
     tie.close
-    (tie.spec
-    number-requires
-    measure-number-requires
-    returns
-    last-pen-requires
-    done-requires
-    returns-2)
+    (tie.spec read-requires enum-known-number enum-known-v measure-read-requires returns returns-2)

@@ -1,30 +1,52 @@
--- `paint::pen_along` meets its contract. The invariant: the pen after the whole label is the pen after what is left of it, from here; and
--- the pen has moved at most 65,535 for each character.
+-- `paint::pen_along` meets its contract. The invariant: the pen after the whole text is the pen after what is left of it, from this pen.
 -- Assumes nothing.
-use native.Mathlib.Omega.{arith}
-use Prim.Native.Nat.{_+_, _-_, _*_, _≤_}
+use Prim.Native.Nat.{ℕ, _-_, _≤_}
 use mathlib.Core.Path.{_≡_, refl, sym, ap, _∙_}
-use borrow.Author.Needs.{needs}
+use mathlib.Core.List.{List}
+use native.Mathlib.Omega.{arith}
 use denote.Ref.{now}
-use lib.ListN.{length, drop}
-use Rattle.fonts.specs.Face.{glyphFrom}
-use Rattle.paint.specs.Pen.{penAfter, penAlong}
-use Rattle.paint.proofs.Along.{along-turn, along-done}
+use lib.ListN.{length, getD, drop}
+use Rattle.fonts.specs.Face.{Face, faceFrom, stepOf}
+use Rattle.paint.specs.Pen.{penAfter, penAlong, stepsOf, Near}
+use Rattle.paint.proofs.Along.{along-turn, along-done, Gone, gone-nowhere, gone-on, gone-near}
+use borrow.Author.Needs.{needs}
 use Rattle.paint.proofs.pen_along.Statement.{statement}
 use Rattle.paint.proofs.pen_along.Tie as tie
 
 abbrev Inv-loop : tie.InvT-loop
-Inv-loop h pointers widths label pen₀ i₀ pen i =
-    (i ≤ length label)
-    × (penAlong (glyphFrom h pointers widths) pen₀ label ≡ penAlong (glyphFrom h pointers widths) pen (drop i label))
-    × (pen .place ≤ pen₀ .place + 65535 * i)
-    × (pen .substitutes ≤ pen₀ .substitutes + i)
+Inv-loop font v text pen₀ i₀ pen i =
+    (i ≤ length text)
+    × (penAlong (stepsOf (faceFrom v font)) pen₀ text ≡ penAlong (stepsOf (faceFrom v font)) pen (drop i text))
+    × Gone pen₀ pen i
 
 abbrev μ-loop : tie.MeasureT-loop
-μ-loop h pointers widths label pen₀ i₀ pen i = length label - i
+μ-loop font v text pen₀ i₀ pen i = length text - i
 
 loop-holds : tie.Need-loop-holds Inv-loop μ-loop
-loop-holds c = (omega arith, refl, omega arith, omega arith)
+loop-holds c = (omega arith, refl, gone-nowhere _)
+
+-- the call, wherever the loop is
+module _ (b : tie.At-loop Inv-loop μ-loop) where
+  abbrev call : tie.Start Inv-loop μ-loop
+  call = b .before .before .before
+
+  abbrev face : Face
+  face = faceFrom (call .args .v) (now (call .args .font))
+
+  abbrev text : List ℕ
+  text = now (call .args .text)
+
+  near : Near (b .loop .pen)
+  near = gone-near _ (b .loop .pen) (b .loop .i) (length text) (call .pre .0) (call .pre .1) (b .loop .inv .0) (b .loop .inv .2)
+
+-- and when a character has been found
+module _ (shown : tie.After-of Inv-loop μ-loop) where
+  abbrev turn : tie.At-loop Inv-loop μ-loop
+  turn = shown .before .before .before .before
+
+  glyph : shown .of .result ≡ face turn .glyph (getD (text turn) (turn .loop .i) 0)
+  unfolding faceFrom
+  glyph = shown .of .ensures ∙ ap (face turn .glyph) (shown .before .code .ensures)
 
 shared-slice-read-code : tie.Need-shared-slice-read-code Inv-loop μ-loop
 shared-slice-read-code c = omega arith
@@ -35,8 +57,13 @@ code-requires c κs = search needs
 of-requires : tie.Need-of-requires Inv-loop μ-loop
 of-requires c κs = search needs
 
+step-requires : tie.Need-step-requires Inv-loop μ-loop
+step-requires c κs = search needs
+
 after-requires : tie.Need-after-requires Inv-loop μ-loop
-after-requires c κs = (omega arith, omega arith)
+after-requires c κs =
+    let close = near (turn (c .before)) in
+    (omega (arith, close .0), omega (arith, close .1))
 
 add-i : tie.Need-add-i Inv-loop μ-loop
 add-i c = omega arith
@@ -46,23 +73,21 @@ loop-less c = omega arith
 
 loop-again : tie.Need-loop-again Inv-loop μ-loop
 loop-again c =
-    let b = c .before .before .before .before .before in
-    let a = b .before .before .before .before .args in
-    let g = glyphFrom (a .h) (now (a .pointers)) (now (a .widths)) in
-    let shown = c .before .of .ensures ∙ ap g (c .before .before .code .ensures) in (
+    let shown = c .before .before in
+    let b = turn shown in
+    let i = b .loop .i in
+    let pen = b .loop .pen in
+    let next = c .after .result in
+    let moved = c .after .ensures .0 ∙ ap (penAfter pen) (c .before .step .ensures ∙ ap stepOf (glyph shown)) in (
       omega arith,
-      b .loop .inv .1
-          ∙ along-turn g (now (a .label)) (b .loop .i) (b .loop .pen) (c .after .result) (omega arith) (c .after .ensures .0 ∙ ap (penAfter (b .loop .pen)) shown),
-      omega arith,
-      omega arith,
+      b .loop .inv .1 ∙ along-turn (stepsOf (face b)) (text b) i pen next (omega arith) moved,
+      gone-on _ pen next i (b .loop .inv .2) (c .after .ensures .1),
     )
 
 returns : tie.Need-returns Inv-loop μ-loop
 returns c =
     let b = c .before in
-    let a = b .before .before .before .before .args in
-    let g = glyphFrom (a .h) (now (a .pointers)) (now (a .widths)) in
-    (sym (b .loop .inv .1 ∙ along-done g (now (a .label)) (b .loop .i) (b .loop .pen) (omega arith)), (omega arith, omega arith))
+    (sym (b .loop .inv .1 ∙ along-done (stepsOf (face b)) (text b) (b .loop .i) (b .loop .pen) (omega arith)), near b)
 
 pub pen-along-spec : {M : Type 1} → statement M
 pen-along-spec =
@@ -74,6 +99,7 @@ pen-along-spec =
     shared-slice-read-code
     code-requires
     of-requires
+    step-requires
     after-requires
     add-i
     loop-less

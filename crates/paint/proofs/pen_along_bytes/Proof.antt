@@ -1,31 +1,51 @@
--- `paint::pen_along_bytes` meets its contract. The invariant: the pen after the whole label is the pen after what is left of it, from here; and
--- the pen has moved at most 65,535 for each character.
+-- `paint::pen_along_bytes` meets its contract, as `pen_along` does: by the step over each code.
 -- Assumes nothing.
-use native.Mathlib.Omega.{arith}
-use Prim.Native.Nat.{_+_, _-_, _*_, _≤_}
+use Prim.Native.Nat.{ℕ, _-_, _≤_}
 use mathlib.Core.Path.{_≡_, refl, sym, ap, _∙_}
-use borrow.Author.Needs.{needs}
+use mathlib.Core.List.{List}
+use native.Mathlib.Omega.{arith}
 use denote.Ref.{now}
-use lib.ListN.{length, drop}
-use Rattle.words.specs.Word.{wordsOf}
-use Rattle.fonts.specs.Face.{glyphFrom}
-use Rattle.paint.specs.Pen.{penAfter, penAlong}
-use Rattle.paint.proofs.Along.{along-turn, along-done}
+use lib.ListN.{length, getD, drop}
+use Rattle.fonts.specs.declared.Step.{Step}
+use Rattle.paint.specs.Pen.{penAfter, penAlong, speltSteps, Near}
+use Rattle.paint.proofs.Along.{along-turn, along-done, Gone, gone-nowhere, gone-on, gone-near}
+use borrow.Author.Needs.{needs}
 use Rattle.paint.proofs.pen_along_bytes.Statement.{statement}
 use Rattle.paint.proofs.pen_along_bytes.Tie as tie
 
 abbrev Inv-loop : tie.InvT-loop
-Inv-loop h pointers widths label pen₀ i₀ pen i =
-    (i ≤ length label)
-    × (penAlong (glyphFrom h (wordsOf pointers) (wordsOf widths)) pen₀ label ≡ penAlong (glyphFrom h (wordsOf pointers) (wordsOf widths)) pen (drop i label))
-    × (pen .place ≤ pen₀ .place + 65535 * i)
-    × (pen .substitutes ≤ pen₀ .substitutes + i)
+Inv-loop h pointers widths dummy text pen₀ i₀ pen i =
+    (i ≤ length text)
+    × (penAlong (speltSteps h pointers widths dummy) pen₀ text ≡ penAlong (speltSteps h pointers widths dummy) pen (drop i text))
+    × Gone pen₀ pen i
 
 abbrev μ-loop : tie.MeasureT-loop
-μ-loop h pointers widths label pen₀ i₀ pen i = length label - i
+μ-loop h pointers widths dummy text pen₀ i₀ pen i = length text - i
 
 loop-holds : tie.Need-loop-holds Inv-loop μ-loop
-loop-holds c = (omega arith, refl, omega arith, omega arith)
+loop-holds c = (omega arith, refl, gone-nowhere _)
+
+-- the call, wherever the loop is
+module _ (b : tie.At-loop Inv-loop μ-loop) where
+  abbrev call : tie.Start Inv-loop μ-loop
+  call = b .before .before .before .before
+
+  abbrev steps : ℕ → Step
+  steps = speltSteps (call .args .h) (now (call .args .pointers)) (now (call .args .widths)) (call .args .dummy)
+
+  abbrev text : List ℕ
+  text = now (call .args .text)
+
+  near : Near (b .loop .pen)
+  near = gone-near _ (b .loop .pen) (b .loop .i) (length text) (call .pre .0) (call .pre .1) (b .loop .inv .0) (b .loop .inv .2)
+
+-- and when the step over a character is known
+module _ (stepped : tie.After-step Inv-loop μ-loop) where
+  abbrev turn : tie.At-loop Inv-loop μ-loop
+  turn = stepped .before .before .before .before
+
+  step : stepped .step .result ≡ steps turn (getD (text turn) (turn .loop .i) 0)
+  step = stepped .step .ensures ∙ ap (steps turn) (stepped .before .code .ensures)
 
 shared-slice-read-code : tie.Need-shared-slice-read-code Inv-loop μ-loop
 shared-slice-read-code c = omega arith
@@ -33,11 +53,13 @@ shared-slice-read-code c = omega arith
 code-requires : tie.Need-code-requires Inv-loop μ-loop
 code-requires c κs = search needs
 
-glyph-requires : tie.Need-glyph-requires Inv-loop μ-loop
-glyph-requires c κs = search needs
+step-requires : tie.Need-step-requires Inv-loop μ-loop
+step-requires c κs = search needs
 
 after-requires : tie.Need-after-requires Inv-loop μ-loop
-after-requires c κs = (omega arith, omega arith)
+after-requires c κs =
+    let close = near (turn c) in
+    (omega (arith, close .0), omega (arith, close .1))
 
 add-i : tie.Need-add-i Inv-loop μ-loop
 add-i c = omega arith
@@ -47,23 +69,20 @@ loop-less c = omega arith
 
 loop-again : tie.Need-loop-again Inv-loop μ-loop
 loop-again c =
-    let b = c .before .before .before .before .before in
-    let a = b .before .before .before .before .args in
-    let g = glyphFrom (a .h) (wordsOf (now (a .pointers))) (wordsOf (now (a .widths))) in
-    let shown = c .before .glyph .ensures ∙ ap g (c .before .before .code .ensures) in (
+    let b = turn (c .before) in
+    let i = b .loop .i in
+    let pen = b .loop .pen in
+    let next = c .after .result in
+    let moved = c .after .ensures .0 ∙ ap (penAfter pen) (step (c .before)) in (
       omega arith,
-      b .loop .inv .1
-          ∙ along-turn g (now (a .label)) (b .loop .i) (b .loop .pen) (c .after .result) (omega arith) (c .after .ensures .0 ∙ ap (penAfter (b .loop .pen)) shown),
-      omega arith,
-      omega arith,
+      b .loop .inv .1 ∙ along-turn (steps b) (text b) i pen next (omega arith) moved,
+      gone-on _ pen next i (b .loop .inv .2) (c .after .ensures .1),
     )
 
 returns : tie.Need-returns Inv-loop μ-loop
 returns c =
     let b = c .before in
-    let a = b .before .before .before .before .args in
-    let g = glyphFrom (a .h) (wordsOf (now (a .pointers))) (wordsOf (now (a .widths))) in
-    (sym (b .loop .inv .1 ∙ along-done g (now (a .label)) (b .loop .i) (b .loop .pen) (omega arith)), (omega arith, omega arith))
+    (sym (b .loop .inv .1 ∙ along-done (steps b) (text b) (b .loop .i) (b .loop .pen) (omega arith)), near b)
 
 pub pen-along-bytes-spec : {M : Type 1} → statement M
 pen-along-bytes-spec =
@@ -74,7 +93,7 @@ pen-along-bytes-spec =
     loop-holds
     shared-slice-read-code
     code-requires
-    glyph-requires
+    step-requires
     after-requires
     add-i
     loop-less

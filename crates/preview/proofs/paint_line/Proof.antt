@@ -1,11 +1,30 @@
 -- `preview::paint_line` paints the label of a line, and nothing for any other.
+use Prim.Native.Nat.{ℕ}
+use mathlib.Core.Path.{sym, _∙_}
+use mathlib.Core.List.{List}
 use denote.Ref.{now}
-use mir.Syntax.{w32}
-use mir.Facts.{toZ-ofZ}
+use Rattle.paint.specs.declared.Shape.{Shape}
 use Rattle.preview.proofs.Lines.{passed-line, other-line, label-line}
 use borrow.Author.Needs.{needs}
 use Rattle.preview.proofs.paint_line.Statement.{statement}
 use Rattle.preview.proofs.paint_line.Tie as tie
+
+-- the call, where the line has been read
+module _ (read : tie.After-line-of) where
+  abbrev called : tie.Start
+  called = read .before .before .before .before
+
+  abbrev font : List ℕ
+  font = now (called .args .font)
+
+  abbrev line : List ℕ
+  line = now (called .args .line)
+
+  abbrev panel : List ℕ
+  panel = now (called .args .panel)
+
+  abbrev s : Shape
+  s = called .args .s
 
 line-of-requires : tie.Need-line-of-requires
 line-of-requires c κs = search needs
@@ -40,15 +59,13 @@ say-reply-requires c κs = search needs
 returns : tie.Need-returns
 returns c =
     let read = c .before .before in
-    let a = read .before .before .before .before .args in
-    passed-line (now (a .font)) (now (a .line)) (now (a .panel)) (a .s) (read .line-of .result) (read .line-of .ensures) (c .enum-told .given .1)
+    passed-line (font read) (line read) (panel read) (s read) (sym (c .enum-told .given .1) ∙ read .line-of .ensures)
 
 returns-2 : tie.Need-returns-2
 returns-2 c =
     let told = c .before .before .before in
     let read = told .before .before in
-    let a = read .before .before .before .before .args in
-    other-line (now (a .font)) (now (a .line)) (now (a .panel)) (a .s) (read .line-of .result) (read .line-of .ensures) (told .enum-told2 .given .1)
+    other-line (font read) (line read) (panel read) (s read) (sym (told .enum-told2 .given .1) ∙ read .line-of .ensures)
 
 same-length : tie.Need-same-length
 same-length c = search needs
@@ -56,18 +73,12 @@ same-length c = search needs
 returns-3 : tie.Need-returns-3
 returns-3 c =
     let paint = c .before .before .before in
-    let down = paint .before in
-    let left = down .before in
-    let text = left .before .before in
+    let text = paint .before .before in
     let known = text .before .before in
     let read = known .before .before in
-    let a = read .before .before .before .before .args in
-    let l = known .read .given .0 .0 in
-    label-line (now (a .font)) (now (a .line)) (now (a .panel)) (a .s) (read .line-of .result) (read .line-of .ensures) l _ _ (now (text .text-of .result)) _
-    (known .read .given .1)
+    label-line (font read) (line read) (panel read) (s read) (known .read .given .0 .0) (now (text .text-of .result)) _
+    (sym (known .read .given .1) ∙ read .line-of .ensures)
     (text .text-of .ensures)
-    (toZ-ofZ {w = w32} {z = l .x} (record { sfits = left .struct-told .given .1 .0 .1 }))
-    (toZ-ofZ {w = w32} {z = l .y} (record { sfits = down .struct-told2 .given .1 .1 .0 .1 }))
     (paint .paint .ensures .1)
 
 pub paint-line-spec : {M : Type 1} → statement M

@@ -1,7 +1,8 @@
--- `sheets::apply_words` meets its contract: each turn alters the next word by the sheet's effect on it.
+-- `sheets::apply_words` meets its contract: each turn alters the next word, which no turn before has touched, by the sheet's effect on it.
 -- Assumes nothing.
-use Prim.Native.Nat.{_-_, _≤_}
+use Prim.Native.Nat.{ℕ, _-_, _≤_}
 use mathlib.Core.Path.{_≡_, refl, ap, _∙_}
+use mathlib.Core.List.{List}
 use native.Mathlib.Omega.{arith}
 use denote.Ref.{now}
 use lib.ListN.{length, length-set}
@@ -9,13 +10,14 @@ use borrow.Author.Needs.{needs}
 use Rattle.words.specs.declared.Effect.{Effect}
 use Rattle.words.specs.Effect.{altered, applyTo}
 use Rattle.words.specs.Word.{word}
-use Rattle.sheets.specs.Sheet.{sheetOf, effectAt}
+use Rattle.paint.specs.Sheet.{sheetOf, effectAt}
 use Rattle.words.proofs.Altering.{altered-next}
 use Rattle.sheets.proofs.apply_words.Statement.{statement}
 use Rattle.sheets.proofs.apply_words.Tie as tie
 
 abbrev Inv-loop : tie.InvT-loop
-Inv-loop keep flip n panel₀ i₀ panel i = (i ≤ n) × (length panel ≡ length panel₀) × (panel ≡ altered 0 i (effectAt (sheetOf keep flip)) panel₀)
+Inv-loop keep flip n panel₀ i₀ panel i =
+    (i ≤ n) × (length panel ≡ length panel₀) × (panel ≡ altered 0 i (effectAt (sheetOf keep flip)) panel₀)
 
 abbrev μ-loop : tie.MeasureT-loop
 μ-loop keep flip n panel₀ i₀ panel i = n - i
@@ -23,6 +25,18 @@ abbrev μ-loop : tie.MeasureT-loop
 loop-holds : tie.Need-loop-holds Inv-loop μ-loop
 unfolding altered
 loop-holds c = (omega arith, refl, refl)
+
+-- the call, wherever the loop is
+module _ (b : tie.At-loop Inv-loop μ-loop) where
+  abbrev call : tie.Start Inv-loop μ-loop
+  call = b .before .before .before .before
+
+  abbrev lent : List ℕ
+  lent = now (call .args .panel)
+
+  -- the sheet's effects
+  abbrev effects : ℕ → Effect
+  effects = effectAt (sheetOf (now (call .args .keep)) (now (call .args .flip)))
 
 mul-new : tie.Need-mul-new Inv-loop μ-loop
 mul-new c = search needs
@@ -63,12 +77,12 @@ loop-less c = omega arith
 loop-again : tie.Need-loop-again Inv-loop μ-loop
 loop-again c =
     let b = c .before .before .before .before .before .before in
-    let a = c .before .before .before .before .before .before .before .before .before .before .args in
-    let sheet = effectAt (sheetOf (now (a .keep)) (now (a .flip))) in (
+    let i = b .loop .i in
+    let panel = b .loop .panel in
+    let applied = c .apply .ensures ∙ ap (λ (e : Effect). applyTo e (word panel i)) (c .before .before .new .ensures) in (
       omega arith,
-      length-set (b .loop .panel) (b .loop .i) (c .apply .result) ∙ b .loop .inv .1,
-      altered-next (b .loop .i) (c .apply .result) sheet (b .loop .panel) (now (a .panel)) (b .loop .inv .2)
-          (c .apply .ensures ∙ ap (λ (e : Effect). applyTo e (word (b .loop .panel) (b .loop .i))) (c .before .before .new .ensures)),
+      length-set panel i (c .apply .result) ∙ b .loop .inv .1,
+      altered-next i (c .apply .result) (effects b) panel (lent b) (b .loop .inv .2) applied,
     )
 
 same-length : tie.Need-same-length Inv-loop μ-loop
@@ -76,8 +90,9 @@ same-length c = c .before .loop .inv .1
 
 returns : tie.Need-returns Inv-loop μ-loop
 returns c =
-    let e : c .before .loop .i ≡ c .before .before .before .before .before .args .n = omega arith in
-    rw e at (c .before .loop .inv .2)
+    let b = c .before in
+    let e : b .loop .i ≡ call b .args .n = omega arith in
+    rw e at (b .loop .inv .2)
 
 pub apply-words-spec : {M : Type 1} → statement M
 apply-words-spec =

@@ -1,7 +1,8 @@
--- `sheets::fill` meets its contract: each turn writes the next word.
+-- `sheets::fill` meets its contract: each turn writes the next word, so after n turns the first n are written and no other.
 -- Assumes nothing.
-use Prim.Native.Nat.{_-_, _≤_}
+use Prim.Native.Nat.{ℕ, _-_, _≤_}
 use mathlib.Core.Path.{_≡_, refl, _∙_}
+use mathlib.Core.List.{List}
 use native.Mathlib.Omega.{arith}
 use denote.Ref.{now}
 use lib.ListN.{length, length-set}
@@ -21,6 +22,17 @@ loop-holds : tie.Need-loop-holds Inv-loop μ-loop
 unfolding over
 loop-holds c = (omega arith, refl, refl)
 
+-- the call, wherever the loop is
+module _ (b : tie.At-loop Inv-loop μ-loop) where
+  abbrev call : tie.Start Inv-loop μ-loop
+  call = b .before
+
+  abbrev lent : List ℕ
+  lent = now (call .args .list)
+
+  abbrev filler : ℕ
+  filler = call .args .word
+
 mul-list : tie.Need-mul-list Inv-loop μ-loop
 mul-list c = search needs
 
@@ -35,11 +47,10 @@ loop-less c = omega arith
 
 loop-again : tie.Need-loop-again Inv-loop μ-loop
 loop-again c =
-    let b = c .before in
-    let a = b .before .args in (
+    let b = c .before in (
       omega arith,
-      length-set (b .loop .list) (b .loop .i) (a .word) ∙ b .loop .inv .1,
-      over-step (b .loop .i) (a .word) (λ k. a .word) (b .loop .list) (now (a .list)) (b .loop .inv .2) refl,
+      length-set (b .loop .list) (b .loop .i) (filler b) ∙ b .loop .inv .1,
+      over-step (b .loop .i) (filler b) (λ k. filler b) (b .loop .list) (lent b) (b .loop .inv .2) refl,
     )
 
 same-length : tie.Need-same-length Inv-loop μ-loop
@@ -47,8 +58,9 @@ same-length c = c .before .loop .inv .1
 
 returns : tie.Need-returns Inv-loop μ-loop
 returns c =
-    let e : c .before .loop .i ≡ c .before .before .args .n = omega arith in
-    rw e at (c .before .loop .inv .2)
+    let b = c .before in
+    let e : b .loop .i ≡ call b .args .n = omega arith in
+    rw e at (b .loop .inv .2)
 
 pub fill-spec : {M : Type 1} → statement M
 fill-spec =

@@ -1,65 +1,85 @@
--- `sheets::fresh` meets its contract: the slices are tested in turn, and then filled.
+-- `sheets::fresh` meets its contract: the shorter slice decides for both, and then they are filled with the effect that alters nothing.
 -- Assumes nothing.
-use mathlib.Core.List.{[], _∷_}
+use Prim.Native.Nat.{ℕ, _≤_}
+use mathlib.Core.Path.{_≡_, sym, ap, ap₂, _∙_}
+use mathlib.Core.Bool.{false}
+use mathlib.Core.List.{List, [], _∷_}
 use native.Mathlib.Omega.{arith}
-use Prim.Native.Nat.{ℕ}
-use mathlib.Core.Path.{refl, sym, ap, _∙_}
 use lib.ListN.{length}
 use denote.Ref.{now}
-use borrow.Author.Tests.{eqb-false}
-use borrow.Author.Needs.{needs}
-use Rattle.words.specs.Word.{over}
-use Rattle.sheets.specs.Sheet.{Sheet, sheetOf, written, lengths, freshNumber}
+use Rattle.paint.specs.declared.Shape.{Shape}
+use Rattle.paint.specs.Panel.{panelWords, badPanel}
 use Rattle.paint.proofs.Accepted.{good-panel}
-use Rattle.sheets.proofs.Slices.{refused-by-first, passed-by-first, passed-alone}
-use Rattle.sheets.proofs.Done.{fresh-refused, fresh-done}
+use Rattle.paint.proofs.Slices.{shorter-decides}
+use Rattle.words.specs.declared.Effect.{Effect}
+use Rattle.words.specs.Word.{over}
+use Rattle.paint.specs.Sheet.{Sheet, sheetOf, lengths, written}
+use Rattle.sheets.specs.Sheet.{freshNumber, freshAfter}
+use Rattle.sheets.proofs.Done.{bad-slices, good-slices, refused-by-8, done, slices}
+use borrow.Author.Needs.{needs}
 use Rattle.sheets.proofs.fresh.Statement.{statement}
 use Rattle.sheets.proofs.fresh.Tie as tie
+
+-- the call, from the moment when its shape and its slices are tested
+module _ (c : tie.After-bad-panel) where
+  abbrev call : tie.Start
+  call = c .before .before .before .before
+
+  abbrev s : Shape
+  s = call .args .s
+
+  abbrev keep : List ℕ
+  keep = now (call .args .keep)
+
+  abbrev flip : List ℕ
+  flip = now (call .args .flip)
+
+  abbrev sheet : Sheet
+  sheet = sheetOf keep flip
+
+  bad-is : c .bad-panel .result ≡ badPanel s (lengths sheet)
+  unfolding lengths
+  bad-is =
+      c .bad-panel .ensures ∙ ap (λ (n : ℕ). badPanel s (n ∷ [])) (c .before .least .ensures)
+      ∙ shorter-decides s (length keep) (length flip) []
+
+-- where it passes there is room in both
+room : (c : tie.Else1) → (panelWords (s (c .before)) ≤ length (keep (c .before))) × (panelWords (s (c .before)) ≤ length (flip (c .before)))
+room c =
+    let long = good-panel (s (c .before)) _ (sym (c .before .bad-panel .ensures) ∙ c .if1 .left) .long in
+    let shorter = c .before .before .least .ensures in
+    (omega (arith, long, shorter), omega (arith, long, shorter))
+
+least-requires : tie.Need-least-requires
+least-requires c κs = search needs
 
 bad-panel-requires : tie.Need-bad-panel-requires
 bad-panel-requires c κs = search needs
 
 returns : tie.Need-returns
-unfolding freshNumber lengths
+unfolding freshNumber freshAfter
 returns c =
-    let a = c .before .before .before .before .args in
-    let sheet = sheetOf (now (a .keep)) (now (a .flip)) in
-    let k = length (now (a .keep)) in
-    let f = length (now (a .flip)) in
-    let n = refused-by-first (a .s) k (f ∷ []) (sym (c .before .bad-panel .ensures) ∙ c .if1 .taken) in
-    let same = fresh-refused 8 (a .s) sheet n (λ z. absurd (eqb-false 8 0 refl z)) in
-    (n, (ap (λ (t : Sheet). t .keep) (same), ap (λ (t : Sheet). t .flip) (same)))
-
-bad-panel-requires-2 : tie.Need-bad-panel-requires-2
-bad-panel-requires-2 c κs = search needs
-
-returns-2 : tie.Need-returns-2
-unfolding freshNumber lengths
-returns-2 c =
-    let a = c .before .before .before .before .before .before .args in
-    let sheet = sheetOf (now (a .keep)) (now (a .flip)) in
-    let k = length (now (a .keep)) in
-    let f = length (now (a .flip)) in
-    let n = refused-by-first (a .s) f [] (sym (c .before .bad-panel2 .ensures) ∙ c .if2 .taken) ∙ passed-by-first (a .s) k (f ∷ []) (sym (c .before .before .before .bad-panel .ensures) ∙ c .before .before .if1 .left) in
-    let same = fresh-refused 8 (a .s) sheet n (λ z. absurd (eqb-false 8 0 refl z)) in
-    (n, (ap (λ (t : Sheet). t .keep) (same), ap (λ (t : Sheet). t .flip) (same)))
+    let t = c .before in
+    let n = bad-slices (s t) (lengths (sheet t)) (sym (bad-is t) ∙ c .if1 .taken) in
+    (n, slices _ _ (refused-by-8 (freshNumber (s t) (sheet t)) _ (sheet t) n))
 
 panel-words-requires : tie.Need-panel-words-requires
 panel-words-requires c κs = search needs
 
+identity-requires : tie.Need-identity-requires
+identity-requires c κs = search needs
+
 fill-requires : tie.Need-fill-requires
 fill-requires c κs =
-    let a = c .before .before .before .before .before .before .before .before .args in
-    let words = c .before .panel-words .ensures in
-    let k = good-panel (a .s) (length (now (a .keep))) (sym (c .before .before .before .before .before .bad-panel .ensures) ∙ c .before .before .before .before .if1 .left) .long in
-    omega arith
+    let tested = c .before .before .before in
+    let words = c .before .before .panel-words .ensures in
+    omega (arith, words, room tested .0)
 
 fill-requires-2 : tie.Need-fill-requires-2
 fill-requires-2 c κs =
-    let a = c .before .before .before .before .before .before .before .before .before .before .before .before .args in
-    let words = c .before .before .before .before .before .panel-words .ensures in
-    let f = good-panel (a .s) (length (now (a .flip))) (sym (c .before .before .before .before .before .before .before .bad-panel2 .ensures) ∙ c .before .before .before .before .before .before .if2 .left) .long in
-    omega arith
+    let counted = c .before .before .before .before .before .before in
+    let words = counted .panel-words .ensures in
+    omega (arith, words, room (counted .before) .1)
 
 same-length : tie.Need-same-length
 same-length c = search needs
@@ -67,19 +87,24 @@ same-length c = search needs
 same-length-2 : tie.Need-same-length-2
 same-length-2 c = search needs
 
-returns-3 : tie.Need-returns-3
-unfolding freshNumber lengths written
-returns-3 c =
-    let a = c .before .before .before .before .before .before .before .before .before .before .before .before .before .before .before .args in
-    let sheet = sheetOf (now (a .keep)) (now (a .flip)) in
-    let words = c .before .before .before .before .before .before .before .before .panel-words .ensures in
-    let n = passed-alone (a .s) (length (now (a .flip))) (sym (c .before .before .before .before .before .before .before .before .before .before .bad-panel2 .ensures) ∙ c .before .before .before .before .before .before .before .before .before .if2 .left)
-    ∙ passed-by-first (a .s) (length (now (a .keep))) (length (now (a .flip)) ∷ []) (sym (c .before .before .before .before .before .before .before .before .before .before .before .before .bad-panel .ensures) ∙ c .before .before .before .before .before .before .before .before .before .before .before .if1 .left) in
-    let made = fresh-done (a .s) sheet n in (
+returns-2 : tie.Need-returns-2
+unfolding freshNumber freshAfter written
+returns-2 c =
+    let filled = c .before .before in
+    let first = filled .before .before .before .before in
+    let idle = first .before .before in
+    let counted = idle .before in
+    let tested = counted .before in
+    let t = tested .before in
+    let words = counted .panel-words .ensures in
+    let n = good-slices (s t) (lengths (sheet t)) (sym (bad-is t) ∙ tested .if1 .left) in
+    let made = slices _ _ (done (freshNumber (s t) (sheet t)) _ (sheet t) n) in
+    let kept = ap (λ (e : Effect). e .keep) (idle .identity .ensures) in
+    let flipped = ap (λ (e : Effect). e .flip) (idle .identity .ensures) in (
       n,
       (
-        c .before .before .before .before .before .before .fill .ensures ∙ ap (λ (m : ℕ). over m (λ i. 0xFFFF) (now (a .keep))) words ∙ ap (λ (t : Sheet). t .keep) made,
-        c .before .before .fill2 .ensures ∙ ap (λ (m : ℕ). over m (λ i. 0) (now (a .flip))) words ∙ ap (λ (t : Sheet). t .flip) made,
+        first .fill .ensures ∙ ap₂ (λ (m w : ℕ). over m (λ i. w) (keep t)) words kept ∙ made .0,
+        filled .fill2 .ensures ∙ ap₂ (λ (m w : ℕ). over m (λ i. w) (flip t)) words flipped ∙ made .1,
       ),
     )
 
@@ -87,13 +112,13 @@ pub fresh-spec : {M : Type 1} → statement M
 fresh-spec =
     tie.close
     (tie.spec
+    least-requires
     bad-panel-requires
     returns
-    bad-panel-requires-2
-    returns-2
     panel-words-requires
+    identity-requires
     fill-requires
     fill-requires-2
     same-length
     same-length-2
-    returns-3)
+    returns-2)

@@ -1,109 +1,104 @@
--- `sheets::join` meets its contract: the four slices are tested in turn, and then the effects joined.
+-- `sheets::join` meets its contract: the shortest slice decides for all four, and then the effects are joined.
 -- Assumes nothing.
-use mathlib.Core.List.{[], _∷_}
+use Prim.Native.Nat.{ℕ, _≤_}
+use mathlib.Core.Path.{_≡_, sym, ap, ap₂, _∙_}
+use mathlib.Core.Bool.{false}
+use mathlib.Core.List.{List, [], _∷_}
 use native.Mathlib.Omega.{arith}
-use Prim.Native.Nat.{ℕ}
-use mathlib.Core.Path.{refl, sym, ap, _∙_}
-use denote.Ref.{now}
 use lib.ListN.{length}
-use borrow.Author.Tests.{eqb-false}
-use borrow.Author.Needs.{needs}
-use Rattle.words.specs.declared.Effect.{Effect}
-use Rattle.words.specs.Effect.{joinOf}
-use Rattle.words.specs.Word.{over}
-use Rattle.sheets.specs.Sheet.{Sheet, sheetOf, effectAt, written, joinNumber}
+use denote.Ref.{now}
+use Rattle.paint.specs.declared.Shape.{Shape}
+use Rattle.paint.specs.Panel.{panelWords, badPanel}
 use Rattle.paint.proofs.Accepted.{good-panel}
-use Rattle.sheets.proofs.Slices.{refused-by-first, passed-by-first, passed-alone}
-use Rattle.sheets.proofs.Done.{join-refused, join-done}
+use Rattle.paint.proofs.Slices.{shorter-decides}
+use Rattle.paint.specs.Sheet.{Sheet, sheetOf}
+use Rattle.sheets.specs.Sheet.{joinNumber, joinAfter}
+use Rattle.sheets.proofs.Done.{bad-slices, good-slices, refused-by-8, done, slices}
+use borrow.Author.Needs.{needs}
 use Rattle.sheets.proofs.join.Statement.{statement}
 use Rattle.sheets.proofs.join.Tie as tie
+
+-- the call, from the moment when its shape and its slices are tested
+module _ (c : tie.After-bad-panel) where
+  abbrev call : tie.Start
+  call = c .before .before .before .before .before .before .before .before
+
+  abbrev s : Shape
+  s = call .args .s
+
+  abbrev keep : List ℕ
+  keep = now (call .args .keep)
+
+  abbrev flip : List ℕ
+  flip = now (call .args .flip)
+
+  abbrev keep2 : List ℕ
+  keep2 = now (call .args .keep2)
+
+  abbrev flip2 : List ℕ
+  flip2 = now (call .args .flip2)
+
+  abbrev first : Sheet
+  first = sheetOf keep flip
+
+  abbrev second : Sheet
+  second = sheetOf keep2 flip2
+
+  abbrev lent : List ℕ
+  lent = length keep ∷ length flip ∷ length keep2 ∷ length flip2 ∷ []
+
+  bad-is : c .bad-panel .result ≡ badPanel s lent
+  bad-is =
+      c .bad-panel .ensures ∙ ap (λ (n : ℕ). badPanel s (n ∷ [])) (c .before .least3 .ensures)
+      ∙ shorter-decides s _ (length flip2) []
+      ∙ ap (λ (n : ℕ). badPanel s (n ∷ length flip2 ∷ [])) (c .before .before .least2 .ensures)
+      ∙ shorter-decides s _ (length keep2) (length flip2 ∷ [])
+      ∙ ap (λ (n : ℕ). badPanel s (n ∷ length keep2 ∷ length flip2 ∷ [])) (c .before .before .before .least .ensures)
+      ∙ shorter-decides s (length keep) (length flip) (length keep2 ∷ length flip2 ∷ [])
+
+-- where it passes there is room in all
+module _ (c : tie.Else1) where
+  abbrev t : tie.After-bad-panel
+  t = c .before
+
+  abbrev Room : List ℕ → Type 0
+  Room slice = panelWords (s t) ≤ length slice
+
+  room : Room (keep t) × Room (flip t) × Room (keep2 t) × Room (flip2 t)
+  room =
+      let long = good-panel (s t) _ (sym (t .bad-panel .ensures) ∙ c .if1 .left) .long in
+      let third = t .before .least3 .ensures in
+      let two = t .before .before .least2 .ensures in
+      let one = t .before .before .before .least .ensures in (
+        omega (arith, long, third, two, one),
+        omega (arith, long, third, two, one),
+        omega (arith, long, third, two),
+        omega (arith, long, third),
+      )
+
+least-requires : tie.Need-least-requires
+least-requires c κs = search needs
+
+least-requires-2 : tie.Need-least-requires-2
+least-requires-2 c κs = search needs
+
+least-requires-3 : tie.Need-least-requires-3
+least-requires-3 c κs = search needs
 
 bad-panel-requires : tie.Need-bad-panel-requires
 bad-panel-requires c κs = search needs
 
 returns : tie.Need-returns
-unfolding joinNumber
+unfolding joinNumber joinAfter
 returns c =
-    let a = c .before .before .before .before .before .before .args in
-    let first = sheetOf (now (a .keep)) (now (a .flip)) in
-    let second = sheetOf (now (a .then-keep)) (now (a .then-flip)) in
-    let k = length (now (a .keep)) in
-    let f = length (now (a .flip)) in
-    let tk = length (now (a .then-keep)) in
-    let tf = length (now (a .then-flip)) in
-    let n = refused-by-first (a .s) k (f ∷ tk ∷ tf ∷ []) (sym (c .before .bad-panel .ensures) ∙ c .if1 .taken) in
-    let same = join-refused 8 (a .s) first second n (λ z. absurd (eqb-false 8 0 refl z)) in
-    (n, (ap (λ (t : Sheet). t .keep) same, ap (λ (t : Sheet). t .flip) same))
-
-bad-panel-requires-2 : tie.Need-bad-panel-requires-2
-bad-panel-requires-2 c κs = search needs
-
-returns-2 : tie.Need-returns-2
-unfolding joinNumber
-returns-2 c =
-    let a = c .before .before .before .before .before .before .before .before .args in
-    let first = sheetOf (now (a .keep)) (now (a .flip)) in
-    let second = sheetOf (now (a .then-keep)) (now (a .then-flip)) in
-    let k = length (now (a .keep)) in
-    let f = length (now (a .flip)) in
-    let tk = length (now (a .then-keep)) in
-    let tf = length (now (a .then-flip)) in
-    let n = refused-by-first (a .s) f (tk ∷ tf ∷ []) (sym (c .before .bad-panel2 .ensures) ∙ c .if2 .taken)
-    ∙ passed-by-first (a .s) k (f ∷ tk ∷ tf ∷ []) (sym (c .before .before .before .bad-panel .ensures) ∙ c .before .before .if1 .left) in
-    let same = join-refused 8 (a .s) first second n (λ z. absurd (eqb-false 8 0 refl z)) in
-    (n, (ap (λ (t : Sheet). t .keep) same, ap (λ (t : Sheet). t .flip) same))
-
-bad-panel-requires-3 : tie.Need-bad-panel-requires-3
-bad-panel-requires-3 c κs = search needs
-
-returns-3 : tie.Need-returns-3
-unfolding joinNumber
-returns-3 c =
-    let a = c .before .before .before .before .before .before .before .before .before .before .args in
-    let first = sheetOf (now (a .keep)) (now (a .flip)) in
-    let second = sheetOf (now (a .then-keep)) (now (a .then-flip)) in
-    let k = length (now (a .keep)) in
-    let f = length (now (a .flip)) in
-    let tk = length (now (a .then-keep)) in
-    let tf = length (now (a .then-flip)) in
-    let n = refused-by-first (a .s) tk (tf ∷ []) (sym (c .before .bad-panel3 .ensures) ∙ c .if3 .taken)
-    ∙ passed-by-first (a .s) f (tk ∷ tf ∷ []) (sym (c .before .before .before .bad-panel2 .ensures) ∙ c .before .before .if2 .left)
-    ∙ passed-by-first (a .s) k (f ∷ tk ∷ tf ∷ []) (sym (c .before .before .before .before .before .bad-panel .ensures) ∙ c .before .before .before .before .if1 .left) in
-    let same = join-refused 8 (a .s) first second n (λ z. absurd (eqb-false 8 0 refl z)) in
-    (n, (ap (λ (t : Sheet). t .keep) same, ap (λ (t : Sheet). t .flip) same))
-
-bad-panel-requires-4 : tie.Need-bad-panel-requires-4
-bad-panel-requires-4 c κs = search needs
-
-returns-4 : tie.Need-returns-4
-unfolding joinNumber
-returns-4 c =
-    let a = c .before .before .before .before .before .before .before .before .before .before .before .before .args in
-    let first = sheetOf (now (a .keep)) (now (a .flip)) in
-    let second = sheetOf (now (a .then-keep)) (now (a .then-flip)) in
-    let k = length (now (a .keep)) in
-    let f = length (now (a .flip)) in
-    let tk = length (now (a .then-keep)) in
-    let tf = length (now (a .then-flip)) in
-    let n = refused-by-first (a .s) tf ([]) (sym (c .before .bad-panel4 .ensures) ∙ c .if4 .taken)
-    ∙ passed-by-first (a .s) tk (tf ∷ []) (sym (c .before .before .before .bad-panel3 .ensures) ∙ c .before .before .if3 .left)
-    ∙ passed-by-first (a .s) f (tk ∷ tf ∷ []) (sym (c .before .before .before .before .before .bad-panel2 .ensures) ∙ c .before .before .before .before .if2 .left)
-    ∙ passed-by-first (a .s) k (f ∷ tk ∷ tf ∷ []) (sym (c .before .before .before .before .before .before .before .bad-panel .ensures) ∙ c .before .before .before .before .before .before .if1 .left) in
-    let same = join-refused 8 (a .s) first second n (λ z. absurd (eqb-false 8 0 refl z)) in
-    (n, (ap (λ (t : Sheet). t .keep) same, ap (λ (t : Sheet). t .flip) same))
-
-panel-words-requires : tie.Need-panel-words-requires
-panel-words-requires c κs = search needs
+    let t = c .before in
+    let n = bad-slices (s t) (lent t) (sym (bad-is t) ∙ c .if1 .taken) in
+    (n, slices _ _ (refused-by-8 (joinNumber (s t) (first t) (second t)) _ (first t) n))
 
 join-words-requires : tie.Need-join-words-requires
 join-words-requires c κs =
-    let a = c .before .before .before .before .before .before .before .before .before .before .before .before .before .before .before .args in
-    let words = c .before .before .panel-words .ensures in
-    let k = good-panel (a .s) (length (now (a .keep))) (sym (c .before .before .before .before .before .before .before .before .before .before .bad-panel .ensures) ∙ c .before .before .before .before .before .before .before .before .before .if1 .left) .long in
-    let f = good-panel (a .s) (length (now (a .flip))) (sym (c .before .before .before .before .before .before .before .before .bad-panel2 .ensures) ∙ c .before .before .before .before .before .before .before .if2 .left) .long in
-    let tk = good-panel (a .s) (length (now (a .then-keep))) (sym (c .before .before .before .before .before .before .bad-panel3 .ensures) ∙ c .before .before .before .before .before .if3 .left) .long in
-    let tf = good-panel (a .s) (length (now (a .then-flip))) (sym (c .before .before .before .before .bad-panel4 .ensures) ∙ c .before .before .before .if4 .left) .long in
-    ((omega arith, omega arith), (omega arith, omega arith))
+    let enough = room (c .before .before) in
+    ((enough .0, enough .1), (enough .2, enough .3))
 
 same-length : tie.Need-same-length
 same-length c = search needs
@@ -111,44 +106,26 @@ same-length c = search needs
 same-length-2 : tie.Need-same-length-2
 same-length-2 c = search needs
 
-returns-5 : tie.Need-returns-5
-unfolding joinNumber written
-returns-5 c =
-    let a = c .before .before .before .before .before .before .before .before .before .before .before .before .before .before .before .before .before .before .before .before .args in
-    let first = sheetOf (now (a .keep)) (now (a .flip)) in
-    let second = sheetOf (now (a .then-keep)) (now (a .then-flip)) in
-    let k = length (now (a .keep)) in
-    let f = length (now (a .flip)) in
-    let tk = length (now (a .then-keep)) in
-    let tf = length (now (a .then-flip)) in
-    let n = passed-alone (a .s) tf (sym (c .before .before .before .before .before .before .before .before .before .bad-panel4 .ensures) ∙ c .before .before .before .before .before .before .before .before .if4 .left)
-    ∙ passed-by-first (a .s) tk (tf ∷ []) (sym (c .before .before .before .before .before .before .before .before .before .before .before .bad-panel3 .ensures) ∙ c .before .before .before .before .before .before .before .before .before .before .if3 .left)
-    ∙ passed-by-first (a .s) f (tk ∷ tf ∷ []) (sym (c .before .before .before .before .before .before .before .before .before .before .before .before .before .bad-panel2 .ensures) ∙ c .before .before .before .before .before .before .before .before .before .before .before .before .if2 .left)
-    ∙ passed-by-first (a .s) k (f ∷ tk ∷ tf ∷ []) (sym (c .before .before .before .before .before .before .before .before .before .before .before .before .before .before .before .bad-panel .ensures) ∙ c .before .before .before .before .before .before .before .before .before .before .before .before .before .before .if1 .left) in
-    let words = c .before .before .before .before .before .before .before .panel-words .ensures in
-    let made = join-done (a .s) first second n in
-    let joined : ℕ → Effect = λ i. joinOf (effectAt first i) (effectAt second i) in (
-      n,
-      (
-        c .before .before .before .before .join-words .ensures .0 ∙ ap (λ (m : ℕ). over m (λ i. joined i .keep) (now (a .keep))) words ∙ ap (λ (t : Sheet). t .keep) made,
-        c .before .before .before .before .join-words .ensures .1 ∙ ap (λ (m : ℕ). over m (λ i. joined i .flip) (now (a .flip))) words ∙ ap (λ (t : Sheet). t .flip) made,
-      ),
-    )
+returns-2 : tie.Need-returns-2
+unfolding joinNumber joinAfter
+returns-2 c =
+    let joined = c .before .before .before .before in
+    let tested = joined .before .before .before in
+    let t = tested .before in
+    let n = good-slices (s t) (lent t) (sym (bad-is t) ∙ tested .if1 .left) in
+    let made = slices _ _ (done (joinNumber (s t) (first t) (second t)) _ (first t) n) in
+    (n, (joined .join-words .ensures .0 ∙ made .0, joined .join-words .ensures .1 ∙ made .1))
 
 pub join-spec : {M : Type 1} → statement M
 join-spec =
     tie.close
     (tie.spec
+    least-requires
+    least-requires-2
+    least-requires-3
     bad-panel-requires
     returns
-    bad-panel-requires-2
-    returns-2
-    bad-panel-requires-3
-    returns-3
-    bad-panel-requires-4
-    returns-4
-    panel-words-requires
     join-words-requires
     same-length
     same-length-2
-    returns-5)
+    returns-2)

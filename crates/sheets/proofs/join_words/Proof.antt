@@ -1,8 +1,9 @@
--- `sheets::join_words` meets its contract: each turn joins the next effect of the second sheet onto the first's, which no turn before has touched.
+-- `sheets::join_words` meets its contract: each turn joins the next effect of the second sheet onto the first's, which no turn before has
+-- touched.
 -- Assumes nothing.
-use mathlib.Core.List.{List}
 use Prim.Native.Nat.{ℕ, _-_, _≤_}
 use mathlib.Core.Path.{_≡_, refl, ap, ap₂, _∙_}
+use mathlib.Core.List.{List}
 use native.Mathlib.Omega.{arith}
 use denote.Ref.{now}
 use lib.ListN.{length, length-set}
@@ -10,23 +11,45 @@ use borrow.Author.Needs.{needs}
 use Rattle.words.specs.declared.Effect.{Effect}
 use Rattle.words.specs.Effect.{effect, joinOf}
 use Rattle.words.specs.Word.{word, over}
-use Rattle.sheets.specs.Sheet.{sheetOf, effectAt}
 use Rattle.words.proofs.Over.{over-step, over-past}
+use Rattle.paint.specs.Panel.{panelWords}
+use Rattle.paint.specs.Sheet.{sheetOf, effectAt, written}
 use Rattle.sheets.proofs.join_words.Statement.{statement}
 use Rattle.sheets.proofs.join_words.Tie as tie
 
 abbrev Inv-loop : tie.InvT-loop
-Inv-loop n keep₀ flip₀ then-keep then-flip i₀ keep flip i =
+Inv-loop keep₀ flip₀ keep2 flip2 n i₀ keep flip i =
     (i ≤ n) × (length keep ≡ length keep₀) × (length flip ≡ length flip₀)
-    × (keep ≡ over i (λ k. joinOf (effectAt (sheetOf keep₀ flip₀) k) (effectAt (sheetOf then-keep then-flip) k) .keep) keep₀)
-    × (flip ≡ over i (λ k. joinOf (effectAt (sheetOf keep₀ flip₀) k) (effectAt (sheetOf then-keep then-flip) k) .flip) flip₀)
+    × (keep ≡ over i (λ j. joinOf (effectAt (sheetOf keep₀ flip₀) j) (effectAt (sheetOf keep2 flip2) j) .keep) keep₀)
+    × (flip ≡ over i (λ j. joinOf (effectAt (sheetOf keep₀ flip₀) j) (effectAt (sheetOf keep2 flip2) j) .flip) flip₀)
 
 abbrev μ-loop : tie.MeasureT-loop
-μ-loop n keep₀ flip₀ then-keep then-flip i₀ keep flip i = n - i
+μ-loop keep₀ flip₀ keep2 flip2 n i₀ keep flip i = n - i
+
+panel-words-requires : tie.Need-panel-words-requires Inv-loop μ-loop
+panel-words-requires c κs = search needs
 
 loop-holds : tie.Need-loop-holds Inv-loop μ-loop
 unfolding over
 loop-holds c = (omega arith, refl, refl, refl, refl)
+
+-- the call, wherever the loop is
+module _ (b : tie.At-loop Inv-loop μ-loop) where
+  abbrev call : tie.Start Inv-loop μ-loop
+  call = b .before .before .before .before .before .before
+
+  abbrev keep : List ℕ
+  keep = now (call .args .keep)
+
+  abbrev flip : List ℕ
+  flip = now (call .args .flip)
+
+  -- an effect of the first sheet, joined by the second's
+  abbrev joint : ℕ → Effect
+  joint j = joinOf (effectAt (sheetOf keep flip) j) (effectAt (sheetOf (now (call .args .keep2)) (now (call .args .flip2))) j)
+
+  words : b .before .panel-words .result ≡ panelWords (call .args .s)
+  words = b .before .panel-words .ensures
 
 mul-new : tie.Need-mul-new Inv-loop μ-loop
 mul-new c = search needs
@@ -81,19 +104,18 @@ loop-less c = omega arith
 
 loop-again : tie.Need-loop-again Inv-loop μ-loop
 loop-again c =
-    let b = c .before .before .before .before .before .before .before .before in
-    let a = c .before .before .before .before .before .before .before .before .before .before .before .before .before .args in
+    let second = c .before .before .before .before in
+    let b = second .before .before .before .before in
     let i = b .loop .i in
-    let first = effectAt (sheetOf (now (a .keep)) (now (a .flip))) in
-    let second = effectAt (sheetOf (now (a .then-keep)) (now (a .then-flip))) in
-    let kept = ap (λ (q : List ℕ). word q i) (b .loop .inv .3) ∙ over-past i (λ k. joinOf (first k) (second k) .keep) (now (a .keep)) i (omega arith) in
-    let flipped = ap (λ (q : List ℕ). word q i) (b .loop .inv .4) ∙ over-past i (λ k. joinOf (first k) (second k) .flip) (now (a .flip)) i (omega arith) in
-    let joined = c .join .ensures ∙ ap₂ joinOf (c .before .new2 .ensures ∙ ap₂ effect kept flipped) (c .before .before .before .before .new .ensures) in (
+    let kept = ap (λ (q : List ℕ). word q i) (b .loop .inv .3) ∙ over-past i (λ j. joint b j .keep) (keep b) i (omega arith) in
+    let flipped = ap (λ (q : List ℕ). word q i) (b .loop .inv .4) ∙ over-past i (λ j. joint b j .flip) (flip b) i (omega arith) in
+    let first = c .before .new2 .ensures ∙ ap₂ effect kept flipped in
+    let joined = c .join .ensures ∙ ap₂ joinOf first (second .new .ensures) in (
       omega arith,
       length-set (b .loop .keep) i (c .join .result .keep) ∙ b .loop .inv .1,
       length-set (b .loop .flip) i (c .join .result .flip) ∙ b .loop .inv .2,
-      over-step i (c .join .result .keep) (λ k. joinOf (first k) (second k) .keep) (b .loop .keep) (now (a .keep)) (b .loop .inv .3) (ap (λ (e : Effect). e .keep) joined),
-      over-step i (c .join .result .flip) (λ k. joinOf (first k) (second k) .flip) (b .loop .flip) (now (a .flip)) (b .loop .inv .4) (ap (λ (e : Effect). e .flip) joined),
+      over-step i _ (λ j. joint b j .keep) (b .loop .keep) (keep b) (b .loop .inv .3) (ap (λ (e : Effect). e .keep) joined),
+      over-step i _ (λ j. joint b j .flip) (b .loop .flip) (flip b) (b .loop .inv .4) (ap (λ (e : Effect). e .flip) joined),
     )
 
 same-length : tie.Need-same-length Inv-loop μ-loop
@@ -103,9 +125,11 @@ same-length-2 : tie.Need-same-length-2 Inv-loop μ-loop
 same-length-2 c = c .before .loop .inv .2
 
 returns : tie.Need-returns Inv-loop μ-loop
+unfolding written
 returns c =
-    let e : c .before .loop .i ≡ c .before .before .before .before .before .before .args .n = omega arith in
-    (rw e at (c .before .loop .inv .3), rw e at (c .before .loop .inv .4))
+    let b = c .before in
+    let e : b .loop .i ≡ panelWords (call b .args .s) = omega (arith, words b) in
+    (rw e at (b .loop .inv .3), rw e at (b .loop .inv .4))
 
 pub join-words-spec : {M : Type 1} → statement M
 join-words-spec =
@@ -113,6 +137,7 @@ join-words-spec =
     (tie.spec
     Inv-loop
     μ-loop
+    panel-words-requires
     loop-holds
     mul-new
     shared-slice-read-new

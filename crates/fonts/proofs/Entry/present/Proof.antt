@@ -1,6 +1,5 @@
 -- `fonts::Entry::present` meets its contract: the kind of the file says what is asked.
 -- Assumes nothing.
-use mathlib.Core.Path.{refl}
 use Rattle.fonts.specs.Entry.{present}
 use Rattle.words.proofs.Chain.{chain}
 use borrow.Author.Needs.{needs}

@@ -11,8 +11,8 @@ shown-requires c κs = search needs
 bitmap-at-requires : tie.Need-bitmap-at-requires
 bitmap-at-requires c κs = search needs
 
-cast-t7 : tie.Need-cast-t7
-cast-t7 c = search needs
+cast-t8 : tie.Need-cast-t8
+cast-t8 c = search needs
 
 columns-requires : tie.Need-columns-requires
 columns-requires c κs = search needs
@@ -20,8 +20,8 @@ columns-requires c κs = search needs
 height-requires : tie.Need-height-requires
 height-requires c κs = search needs
 
-cast-t10 : tie.Need-cast-t10
-cast-t10 c = search needs
+cast-t11 : tie.Need-cast-t11
+cast-t11 c = search needs
 
 place-requires : tie.Need-place-requires
 place-requires c κs = search needs
@@ -42,10 +42,10 @@ by-spec =
     (tie.spec
     shown-requires
     bitmap-at-requires
-    cast-t7
+    cast-t8
     columns-requires
     height-requires
-    cast-t10
+    cast-t11
     place-requires
     advance-requires
     exists-requires

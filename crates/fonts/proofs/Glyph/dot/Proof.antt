@@ -1,7 +1,7 @@
 -- `fonts::Glyph::dot` meets its contract. A row within the height times a word fits.
 -- Assumes nothing.
 use native.Mathlib.Omega.{arith}
-use Prim.Native.Nat.{ℕ, _+_, _%_}
+use Prim.Native.Nat.{ℕ, _+_, _*_, _%_, _≤_}
 use mathlib.Core.Path.{ap, _∙_}
 use borrow.Author.Needs.{needs}
 use Rattle.words.specs.Word.{bitOf}
@@ -10,6 +10,13 @@ use Rattle.fonts.proofs.Dots.{row-start}
 use Rattle.words.proofs.Chain.{chain}
 use Rattle.fonts.proofs.Glyph.dot.Statement.{statement}
 use Rattle.fonts.proofs.Glyph.dot.Tie as tie
+
+-- the moments: a call, and a dot in the picture
+abbrev asked : tie.After-struct-known5 → tie.After-shared-slice-known
+asked c = c .before .before .before .before .before .before .before
+
+start-fits : (c : tie.After-struct-known5) → asked c .before .args .row * asked c .before .args .self .raster ≤ 281470681677825
+start-fits c = row-start (asked c .before .args .row) (asked c .before .args .self .raster) (omega arith) (omega arith)
 
 cast-if1 : tie.Need-cast-if1
 cast-if1 c = search needs
@@ -38,13 +45,13 @@ cast-i-2 : tie.Need-cast-i-2
 cast-i-2 c = search needs
 
 mul-i : tie.Need-mul-i
-mul-i c = omega (arith, row-start (c .before .before .before .before .before .before .before .before .args .row) (c .before .before .before .before .before .before .before .before .args .self .raster) (omega arith) (omega arith))
+mul-i c = omega (arith, start-fits c)
 
 add-i : tie.Need-add-i
-add-i c = omega (arith, row-start (c .before .before .before .before .before .before .before .before .args .row) (c .before .before .before .before .before .before .before .before .args .self .raster) (omega arith) (omega arith))
+add-i c = omega (arith, start-fits c)
 
 add-i-2 : tie.Need-add-i-2
-add-i-2 c = omega (arith, row-start (c .before .before .before .before .before .before .before .before .args .row) (c .before .before .before .before .before .before .before .before .args .self .raster) (omega arith) (omega arith))
+add-i-2 c = omega (arith, start-fits c)
 
 word-at-requires : tie.Need-word-at-requires
 word-at-requires c κs = search needs
@@ -55,7 +62,7 @@ bit-requires c κs = search needs
 returns-3 : tie.Need-returns-3
 unfolding dotOf
 returns-3 c =
-    let a = c .before .before .before .before .before .before .before .before .before .before .args in
+    let a = asked (c .before .before) .before .args in
     let found = c .bit .ensures ∙ ap (λ (w : ℕ). bitOf w ((a .self .first + a .column) % 16)) (c .before .word-at .ensures) in
     search chain depth 20
 

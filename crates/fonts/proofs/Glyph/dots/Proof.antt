@@ -54,7 +54,8 @@ loop-again : tie.Need-loop-again Inv-loop μ-loop
 loop-again c =
     let b = c .before .before in
     let a = b .before .before .args in
-    (omega arith, one-bit-more (dotsFrom (now (a .font)) (a .self) (a .row) (a .column)) (b .loop .i) (b .loop .word) (c .dot .result) (b .loop .inv .1) (c .dot .ensures))
+    let f = dotsFrom (now (a .font)) (a .self) (a .row) (a .column) in
+    (omega arith, one-bit-more f (b .loop .i) (b .loop .word) (c .dot .result) (b .loop .inv .1) (c .dot .ensures))
 
 returns : tie.Need-returns Inv-loop μ-loop
 unfolding dotsOf wordOf

@@ -1,9 +1,15 @@
--- `fonts::Glyph::of` meets its contract: it asks the tables at the code's own place and at the dummy's.
+-- `fonts::Glyph::of` meets its contract: it asks the font's tables at the code's own place and at the dummy's.
 -- Assumes nothing.
 use Rattle.fonts.specs.Face.{glyphFrom}
 use borrow.Author.Needs.{needs}
 use Rattle.fonts.proofs.Glyph.of.Statement.{statement}
 use Rattle.fonts.proofs.Glyph.of.Tie as tie
+
+pointers-requires : tie.Need-pointers-requires
+pointers-requires c κs = search needs
+
+widths-requires : tie.Need-widths-requires
+widths-requires c κs = search needs
 
 place-requires : tie.Need-place-requires
 place-requires c κs = search needs
@@ -27,4 +33,12 @@ returns c = cc
 pub of-spec : {M : Type 1} → statement M
 of-spec =
     tie.close
-    (tie.spec place-requires at-requires codes-requires at-requires-2 by-requires returns)
+    (tie.spec
+    pointers-requires
+    widths-requires
+    place-requires
+    at-requires
+    codes-requires
+    at-requires-2
+    by-requires
+    returns)

@@ -14,7 +14,10 @@ cast-result-2 : tie.Need-cast-result-2
 cast-result-2 c = search needs
 
 mul-result : tie.Need-mul-result
-mul-result c = omega (arith, mul-le-mul {n₁ = c .before .before .args .self .rowwords} {m₁ = c .before .before .args .self .rows} {n₂ = 4294967295} {m₂ = 4294967295} (omega arith) (omega arith))
+mul-result c =
+    let s = c .before .before .args .self in
+    let small = mul-le-mul {n₁ = s .rowwords} {m₁ = s .rows} {n₂ = 4294967295} {m₂ = 4294967295} (omega arith) (omega arith) in
+    omega (arith, small)
 
 returns : tie.Need-returns
 returns c = refl

@@ -22,10 +22,13 @@ part-requires c κs = search needs
 returns : tie.Need-returns
 unfolding behind
 returns c =
-    let text = now (c .before .before .before .args .text) in
-    let k = c .before .word-length .result in
+    let counted = c .before in
+    let text = now (counted .before .before .args .text) in
+    let k = counted .word-length .result in
     let left = length-drop (k + 1) text in
-    c .part .ensures ∙ take-all (length text) (drop (k + 1) text) (omega arith) ∙ ap (λ (n : ℕ). drop (n + 1) text) (c .before .word-length .ensures .0)
+    c .part .ensures
+    ∙ take-all (length text) (drop (k + 1) text) (omega arith)
+    ∙ ap (λ (n : ℕ). drop (n + 1) text) (counted .word-length .ensures .0)
 
 pub behind-spec : {M : Type 1} → statement M
 behind-spec = tie.close (tie.spec word-length-requires add-part part-requires returns)

@@ -1,6 +1,7 @@
 -- `preview::label::label_of` reads the numbers of the words of the line.
-use denote.Ref.{now}
-use Rattle.preview.proofs.Lines.{label-by-words}
+use mathlib.Core.Path.{ap, _∙_}
+use Rattle.preview.specs.Number.{numberOf, signedOf}
+use Rattle.preview.specs.Line.{wordOf, behind, labelFrom, labelOf}
 use borrow.Author.Needs.{needs}
 use Rattle.preview.proofs.label.label_of.Statement.{statement}
 use Rattle.preview.proofs.label.label_of.Tie as tie
@@ -42,6 +43,7 @@ label-from-requires : tie.Need-label-from-requires
 label-from-requires c κs = search needs
 
 returns : tie.Need-returns
+unfolding labelOf
 returns c =
     let mode = c .before in
     let four = mode .before in
@@ -54,14 +56,14 @@ returns c =
     let fourth = one .before in
     let third = fourth .before in
     let second = third .before in
-    let line = now (second .before .before .args .line) in
-    label-by-words line (now (second .behind .result)) (now (third .behind2 .result)) (now (fourth .behind3 .result))
-    (now (one .word .result)) (now (two .word2 .result)) (now (three .word3 .result)) (now (four .word4 .result))
-    (strip .decimal .result) (mode .decimal2 .result) (left .signed-decimal .result) (down .signed-decimal2 .result) (c .label-from .result)
-    (second .behind .ensures) (third .behind2 .ensures) (fourth .behind3 .ensures)
-    (one .word .ensures) (two .word2 .ensures) (three .word3 .ensures) (four .word4 .ensures)
-    (strip .decimal .ensures .0) (left .signed-decimal .ensures) (down .signed-decimal2 .ensures) (mode .decimal2 .ensures .0)
-    (c .label-from .ensures)
+    let second-is = second .behind .ensures in
+    let third-is = third .behind2 .ensures ∙ ap behind second-is in
+    let fourth-is = fourth .behind3 .ensures ∙ ap behind third-is in
+    let strip-is = strip .decimal .ensures .0 ∙ ap numberOf (one .word .ensures) in
+    let left-is = left .signed-decimal .ensures ∙ ap signedOf (two .word2 .ensures ∙ ap wordOf second-is) in
+    let down-is = down .signed-decimal2 .ensures ∙ ap signedOf (three .word3 .ensures ∙ ap wordOf third-is) in
+    let mode-is = mode .decimal2 .ensures .0 ∙ ap numberOf (four .word4 .ensures ∙ ap wordOf fourth-is) in
+    c .label-from .ensures ∙ λ i. labelFrom (strip-is i) (left-is i) (down-is i) (mode-is i)
 
 pub label-of-spec : {M : Type 1} → statement M
 label-of-spec =

@@ -1,9 +1,12 @@
--- `preview::label::text_of` is what is behind four spaces.
+-- `preview::label::text_of` is what is behind four spaces, without the return.
 use mathlib.Core.Path.{ap, _∙_}
 use Rattle.preview.specs.Line.{behind, textOf}
 use borrow.Author.Needs.{needs}
 use Rattle.preview.proofs.label.text_of.Statement.{statement}
 use Rattle.preview.proofs.label.text_of.Tie as tie
+
+without-return-requires : tie.Need-without-return-requires
+without-return-requires c κs = search needs
 
 behind-requires : tie.Need-behind-requires
 behind-requires c κs = search needs
@@ -23,9 +26,12 @@ returns c =
     let third = c .before in
     let second = third .before in
     let first = second .before in
-    c .behind4 .ensures ∙ ap behind (third .behind3 .ensures ∙ ap behind (second .behind2 .ensures ∙ ap behind (first .behind .ensures)))
+    let whole = first .before in
+    let one = first .behind .ensures ∙ ap behind (whole .without-return .ensures) in
+    let two = second .behind2 .ensures ∙ ap behind one in
+    c .behind4 .ensures ∙ ap behind (third .behind3 .ensures ∙ ap behind two)
 
 pub text-of-spec : {M : Type 1} → statement M
 text-of-spec =
     tie.close
-    (tie.spec behind-requires behind-requires-2 behind-requires-3 behind-requires-4 returns)
+    (tie.spec without-return-requires behind-requires behind-requires-2 behind-requires-3 behind-requires-4 returns)

@@ -1,6 +1,7 @@
 -- `preview::label::word_length` counts up to the first space. The invariant: the word is what has been passed and the word of the rest.
-use Prim.Native.Nat.{_+_, _-_, _≤_}
+use Prim.Native.Nat.{ℕ, _+_, _-_, _≤_}
 use mathlib.Core.Path.{_≡_}
+use mathlib.Core.List.{List}
 use lib.ListN.{length, drop}
 use denote.Ref.{now}
 use native.Mathlib.Omega.{arith}
@@ -15,6 +16,14 @@ Inv-loop text i₀ i = (i ≤ length text) × (wordLength text ≡ i + wordLengt
 abbrev μ-loop : tie.MeasureT-loop
 μ-loop text i₀ i = length text - i
 
+-- the text, and the place in it
+module _ (here : tie.At-loop Inv-loop μ-loop) where
+  abbrev text : List ℕ
+  text = now (here .before .args .text)
+
+  abbrev at : ℕ
+  at = here .loop .i
+
 loop-holds : tie.Need-loop-holds Inv-loop μ-loop
 loop-holds c = (omega arith, omega arith)
 
@@ -23,8 +32,8 @@ shared-slice-read-if1 c = omega arith
 
 returns : tie.Need-returns Inv-loop μ-loop
 returns c =
-    let b = c .before .before .before in
-    let ends = word-ends (now (b .before .args .text)) (b .loop .i) (omega arith) (c .if1 .taken) in
+    let here = c .before .before .before in
+    let ends = word-ends (text here) (at here) (omega arith) (c .if1 .taken) in
     (omega arith, omega arith)
 
 add-i : tie.Need-add-i Inv-loop μ-loop
@@ -35,14 +44,14 @@ loop-less c = omega arith
 
 loop-again : tie.Need-loop-again Inv-loop μ-loop
 loop-again c =
-    let b = c .before .before .before in
-    let on = word-goes-on (now (b .before .args .text)) (b .loop .i) (omega arith) (c .if1 .left) in
+    let here = c .before .before .before in
+    let on = word-goes-on (text here) (at here) (omega arith) (c .if1 .left) in
     (omega arith, omega arith)
 
 returns-2 : tie.Need-returns-2 Inv-loop μ-loop
 returns-2 c =
-    let b = c .before in
-    let ends = line-ends (now (b .before .args .text)) (b .loop .i) (omega arith) in
+    let here = c .before in
+    let ends = line-ends (text here) (at here) (omega arith) in
     (omega arith, omega arith)
 
 pub word-length-spec : {M : Type 1} → statement M

@@ -1,19 +1,25 @@
--- `preview::number::decimal` reads digit by digit. The invariant: what the whole text spells is what the rest of it makes of the number so far.
+-- `preview::number::decimal` reads digit by digit. The invariant: what the whole text spells is what the rest of it makes of the number
+-- so far.
 use Prim.Native.Nat.{ℕ, _+_, _-_, _≤_}
 use mathlib.Core.Path.{_≡_, refl, sym, ap, _∙_}
+use mathlib.Core.List.{List}
 use lib.ListN.{length, drop}
 use denote.Ref.{now}
 use native.Mathlib.Omega.{arith}
-use Rattle.preview.specs.Number.{digitsAfter}
+use Rattle.preview.specs.Number.{none, digitsAfter}
 use Rattle.preview.proofs.Digits.{some-digits, no-digits, digit-more, digits-done}
 use Rattle.preview.proofs.number.decimal.Statement.{statement}
 use Rattle.preview.proofs.number.decimal.Tie as tie
 
 abbrev Inv-loop : tie.InvT-loop
-Inv-loop text n₀ i₀ n i = (i ≤ length text) × (digitsAfter 0 text ≡ digitsAfter n (drop i text)) × (n ≤ 4294967296)
+Inv-loop text n₀ i₀ n i = (i ≤ length text) × (digitsAfter 0 text ≡ digitsAfter n (drop i text)) × (n ≤ none)
 
 abbrev μ-loop : tie.MeasureT-loop
 μ-loop text n₀ i₀ n i = length text - i
+
+-- the text, wherever the loop is
+abbrev text-at : tie.At-loop Inv-loop μ-loop → List ℕ
+text-at here = now (here .before .before .before .args .text)
 
 returns : tie.Need-returns Inv-loop μ-loop
 returns c = (no-digits _ (omega arith), omega arith)
@@ -35,19 +41,22 @@ loop-less c = omega arith
 
 loop-again : tie.Need-loop-again Inv-loop μ-loop
 loop-again c =
-    let b = c .before .before .before in
-    let text = now (b .before .before .before .args .text) in (
+    let here = c .before .before .before in
+    let i = here .loop .i in
+    let text = text-at here in (
       omega arith,
-      b .loop .inv .1 ∙ digit-more text (b .loop .n) (b .loop .i) (omega arith) ∙ ap (λ (k : ℕ). digitsAfter k (drop (b .loop .i + 1) text)) (sym (c .with-digit .ensures .0)),
+      here .loop .inv .1
+          ∙ digit-more text (here .loop .n) i (omega arith)
+          ∙ ap (λ (k : ℕ). digitsAfter k (drop (i + 1) text)) (sym (c .with-digit .ensures .0)),
       c .with-digit .ensures .1,
     )
 
 returns-2 : tie.Need-returns-2 Inv-loop μ-loop
 returns-2 c =
-    let b = c .before in
-    let text = now (b .before .before .before .args .text) in (
-      sym (some-digits text (omega arith) ∙ b .loop .inv .1 ∙ digits-done text (b .loop .n) (b .loop .i) (omega arith)),
-      b .loop .inv .2,
+    let here = c .before in
+    let text = text-at here in (
+      sym (some-digits text (omega arith) ∙ here .loop .inv .1 ∙ digits-done text (here .loop .n) (here .loop .i) (omega arith)),
+      here .loop .inv .2,
     )
 
 pub decimal-spec : {M : Type 1} → statement M

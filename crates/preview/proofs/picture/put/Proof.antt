@@ -1,6 +1,5 @@
 -- `preview::picture::put` puts one byte.
 use denote.Ref.{now}
-use mathlib.Core.Path.{refl}
 use Rattle.preview.proofs.Putting.{put-one}
 use borrow.Author.Needs.{needs}
 use Rattle.preview.proofs.picture.put.Statement.{statement}
@@ -16,7 +15,7 @@ same-length : tie.Need-same-length
 same-length c = search needs
 
 returns : tie.Need-returns
-returns c = (refl, put-one (c .args .at) (c .args .b) (now (c .args .out)) (c .pre))
+returns c = put-one (c .args .at) (c .args .b) (now (c .args .out)) (c .pre)
 
 pub put-spec : {M : Type 1} → statement M
 put-spec = tie.close (tie.spec slice-write-out add-result same-length returns)

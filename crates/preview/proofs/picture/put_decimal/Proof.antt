@@ -1,10 +1,6 @@
 -- `preview::picture::put_decimal` puts digit behind digit.
-use Prim.Native.Nat.{ℕ}
-use mathlib.Core.Path.{ap, _∙_}
-use mathlib.Core.List.{[], _∷_}
-use denote.Ref.{now}
 use native.Mathlib.Omega.{arith}
-use Rattle.preview.specs.Picture.{digit, leading, decimal, putAt}
+use Rattle.preview.specs.Picture.{digit, decimal}
 use Rattle.preview.proofs.Putting.{then}
 use borrow.Author.Needs.{needs}
 use Rattle.preview.proofs.picture.put_decimal.Statement.{statement}
@@ -36,14 +32,10 @@ returns c =
     let tens = units .before .before .before .before in
     let hundreds = tens .before .before .before .before in
     let thousands = hundreds .before .before .before .before in
-    let a = thousands .before .before .before .args in
-    let digits = last .put .ensures .1 ∙ ap (λ (b : ℕ). putAt (tens .put-leading3 .result) (b ∷ []) (tens .put-leading3 .last .0)) (units .digit .ensures) in
-    let whole =
-    then (a .at) (leading (a .n) 1000) _ (now (a .out)) (omega arith) _ _ _ _ (thousands .put-leading .ensures .0, thousands .put-leading .ensures .1 .1)
-    (then (thousands .put-leading .result) (leading (a .n) 100) _ (thousands .put-leading .last .0) (omega arith) _ _ _ _ (hundreds .put-leading2 .ensures .0, hundreds .put-leading2 .ensures .1 .1)
-    (then (hundreds .put-leading2 .result) (leading (a .n) 10) (digit (a .n) 1 ∷ []) (hundreds .put-leading2 .last .0) (omega arith) _ _ _ _ (tens .put-leading3 .ensures .0, tens .put-leading3 .ensures .1 .1)
-    (last .put .ensures .0, digits))) in
-    (whole .0, (omega arith, whole .1))
+    let unit = rw (units .digit .ensures) at (last .put .ensures) in
+    let from-tens = then (tens .put-leading3 .ensures .0) unit (omega arith) in
+    let from-hundreds = then (hundreds .put-leading2 .ensures .0) from-tens (omega arith) in
+    (then (thousands .put-leading .ensures .0) from-hundreds (omega arith), omega arith)
 
 pub put-decimal-spec : {M : Type 1} → statement M
 put-decimal-spec =

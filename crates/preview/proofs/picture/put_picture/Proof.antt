@@ -44,16 +44,18 @@ returns c =
     let written = c .before .before in
     let part = written .before .before in
     let header = part .before .before .before .before in
-    let a = header .before .before .before .before .args in
-    let rows = part .part .ensures ∙ ap (λ (k : ℕ). take k (now (a .panel))) (part .before .panel-words .ensures) in
-    let size : length (now (part .part .result)) ≡ panelWords (a .s) = ap length rows ∙ length-take-le (panelWords (a .s)) (now (a .panel)) (header .before .before .before .before .pre .0 .0) in
-    rows-behind (headerOf (a .s)) (take (panelWords (a .s)) (now (a .panel))) (now (part .part .result)) (now (a .out)) rows (omega arith)
+    let called = header .before .before .before .before in
+    let a = called .args in
+    let panel = now (a .panel) in
+    let rows = part .part .ensures ∙ ap (λ (k : ℕ). take k panel) (part .before .panel-words .ensures) in
+    let size : length (now (part .part .result)) ≡ panelWords (a .s) =
+    ap length rows ∙ length-take-le (panelWords (a .s)) panel (called .pre .0 .0) in
+    rows-behind (headerOf (a .s)) (take (panelWords (a .s)) panel) (now (part .part .result)) (now (a .out)) rows (omega arith)
     (header .put-header .result)
     (written .to-bytes .result)
     (header .put-header .last .1 .0)
     (written .to-bytes .last .1 .0)
     (header .put-header .ensures .0)
-    (header .put-header .ensures .1 .1)
     (written .to-bytes .ensures .0)
     (written .to-bytes .ensures .1)
 

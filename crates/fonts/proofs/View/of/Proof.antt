@@ -1,0 +1,22 @@
+-- `fonts::View::of` meets its contract: the body begins where the format says.
+-- Assumes nothing.
+use Rattle.fonts.specs.Strike.{viewOf}
+use borrow.Author.Needs.{needs}
+use Rattle.fonts.proofs.View.of.Statement.{statement}
+use Rattle.fonts.proofs.View.of.Tie as tie
+
+of-requires : tie.Need-of-requires
+of-requires c κs = search needs
+
+body-at-requires : tie.Need-body-at-requires
+body-at-requires c κs = search needs
+
+of-requires-2 : tie.Need-of-requires-2
+of-requires-2 c κs = search needs
+
+returns : tie.Need-returns
+unfolding viewOf
+returns c = cc
+
+pub of-spec : {M : Type 1} → statement M
+of-spec = tie.close (tie.spec of-requires body-at-requires of-requires-2 returns)
