@@ -13,7 +13,8 @@ use Rattle.words.proofs.Bits.{bit-word-of}
 use Rattle.words.proofs.Rows.{row-of, word-of-row, row-room}
 use Rattle.fonts.specs.declared.Glyph.{Glyph}
 use Rattle.fonts.specs.Strike.{bitmapAt, fileSum}
-use Rattle.fonts.specs.Reading.{tooShort, badFormat, kernedTooShort, badCodes, badBox, badSizes, badLength, lengthsDiffer, badPointers, fallsFrom, noDummy}
+use Rattle.fonts.specs.Reading.{tooShort, badFormat, kernedTooShort, badCodes, badBox, badSizes, badLength, lengthsDiffer}
+use Rattle.fonts.specs.Reading.{badPointers, fallsFrom, noDummy}
 use Rattle.fonts.specs.Reading.{headNumber, tableNumber, numberBy, fontNumber, accepted}
 use Rattle.fonts.specs.declared.Entry.{Entry}
 use Rattle.fonts.specs.Entry.{entryAt, present, columnsOf, leftOf, advanceOf}
@@ -21,7 +22,8 @@ use Rattle.fonts.specs.Face.{exists, shown, glyphBy, glyphFrom, dotOf, faceFrom
 use Rattle.fonts.proofs.Falling.{rising}
 use Rattle.convert.specs.Writing.{Drawing, minCode, maxCode, codeCount, fbbdy, rasterOf, pointerAt, allColumns, maxWidth, lengthWord, strikeDot, bitmapWord, pointerWord, fileOf, fileWords}
 use Rattle.convert.proofs.File.{pointersWritten, widthsWritten, file-length, file-bitmap}
-use Rattle.convert.proofs.Parts.{of-format, format-kerned, viewWritten, view-read, pointers-read, widths-read, pointer-at, pointer-end, entry-at, entry-dummy}
+use Rattle.convert.proofs.Parts.{of-format, format-kerned, viewWritten, view-read, pointers-read, widths-read}
+use Rattle.convert.proofs.Parts.{pointer-at, pointer-end, entry-at, entry-dummy}
 use Rattle.convert.proofs.Columns.{pointer-next, pointer-rises, raster-holds, strike-picture, strike-dummy, strike-bit}
 use Rattle.convert.proofs.Sound.{Sound, from-min, upto-max, in-tables, counted, own-columns, max-small, min-max, raster-some, raster-narrow, spacing-small, entry-small, max-width-small}
 

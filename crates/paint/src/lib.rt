@@ -200,8 +200,7 @@ fn pen_along(font: &[u16], v: View, start: Pen, text: &[u8]) -> Pen
     let mut pen = start;
     let mut i = 0;
     while i < text.len() {
-        let g = Glyph::of(font, v, code(text[i]));
-        pen = pen.after(g.step());
+        pen = pen.after(Glyph::of(font, v, code(text[i])).step());
         i += 1;
     }
     pen

@@ -146,19 +146,7 @@ altered-same k (suc n) e f p same =
     (altered-same k n e f p (λ j less. same j (omega arith)))
     (same n (omega arith))
 
--- only the middle of a run alters anything
-pub altered-middle : (k a b c : ℕ) (e : ℕ → Effect) (p : List ℕ) → ((i : ℕ) → OfWords (e i)) → AllWords p
-    → ((j : ℕ) → j < a → e (k + j) ≡ identity)
-    → ((j : ℕ) → j < c → e (k + a + b + j) ≡ identity)
-    → altered k (a + b + c) e p ≡ altered (k + a) b e p
-altered-middle k a b c e p ofwords words left right =
-    altered-on k (a + b) c e p
-    ∙ ap (λ (i : ℕ). altered i c e (altered k (a + b) e p)) (sym (add-assoc k a b))
-    ∙ altered-idle (k + a + b) c e (altered k (a + b) e p) (altered-words k (a + b) e p ofwords words) right
-    ∙ altered-on k a b e p
-    ∙ ap (altered (k + a) b e) (altered-idle k a e p words left)
-
--- the same, in a run from the first word on
+-- what a loop does in a turn, in a run from the first word on
 pub altered-next : (n d : ℕ) (e : ℕ → Effect) (now before : List ℕ)
     → now ≡ altered 0 n e before → d ≡ applyTo (e n) (word now n) → set now n d ≡ altered 0 (n + 1) e before
 altered-next n d e now before same becomes =
