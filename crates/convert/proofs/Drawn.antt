@@ -12,6 +12,7 @@ use Rattle.words.proofs.Search.{some-here, last-le}
 use Rattle.convert.specs.Writing.{fbbdy}
 use Rattle.convert.specs.Cu.{rows, width, codePlace, placesOf, rasterDot, hasDot, lowestOf, firstInRow, leftOf, rightOf, columnsAcross, rowUsed, leftmost, top, bottom, frameOf, frameFrom, leftFrom, drawingOf, drawingFrom}
 use Rattle.convert.specs.Conversion.{cuNumber}
+use Rattle.convert.specs.Shown.{originRow, originColumn}
 use Rattle.convert.proofs.Sound.{Sound}
 use Rattle.convert.proofs.Accepting.{GoodFile, accepted-file, accepted-drawing, rows-upto}
 use Rattle.convert.proofs.Codes.{character-there}
@@ -60,10 +61,10 @@ module _ (ws : List ℕ) where
   -- ---- the origin, "at row a and column b"
 
   abbrev pub a : ℕ
-  a = lowestOf ws (codePlace ws 65)
+  a = originRow ws
 
   abbrev pub b : ℕ
-  b = firstInRow ws (codePlace ws 65) a
+  b = originColumn ws
 
   pub drawn-ascent : drawingOf ws .ascent ≡ a - top ws + 1
   unfolding drawingOf drawingFrom frameOf frameFrom

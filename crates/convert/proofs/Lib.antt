@@ -12,6 +12,7 @@ pub mod Placing
 pub mod Measured
 pub mod Sources
 pub mod Converting
+pub mod Answers
 pub mod Accepting
 pub mod Codes
 pub mod Boxes

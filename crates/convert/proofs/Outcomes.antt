@@ -18,7 +18,7 @@ use Rattle.convert.proofs.cu.offset as offset
 pub convert-one : (κs : Lfts 2) (a : Dens κs convert.Kinds.ps) (r o : resT convert.Kinds.r κs .Denot) (e e′ : AtExit (endedOf 2 convert.Kinds.ps convert.Kinds.r) κs)
     → convert.Reads.Post κs a r e → convert.Reads.Post κs a o e′
     → (r ≡ o) × (now (e .1 .0) ≡ now (e′ .1 .0))
-convert-one κs a r o e e′ p q = (p .0 ∙ sym (q .0), p .1 ∙ sym (q .1))
+convert-one κs a r o e e′ p q = (p .0 ∙ sym (q .0), p .1 .0 ∙ sym (q .1 .0))
 
 pub source-of-one : OneReply 1 source-of.Kinds.ps source-of.Kinds.r source-of.Reads.Post
 source-of-one κs a r o e e′ p q = p ∙ sym q

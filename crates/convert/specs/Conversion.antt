@@ -1,5 +1,6 @@
 -- The conversion of a CU file, its refusals, and the program: the paper's "Numbers returned", 20 to 27, and its last paragraph.
 use Prim.Native.Nat.{ℕ, _+_}
+use mathlib.Core.Path.{_≡_}
 use mathlib.Core.Bool.{cond}
 use mathlib.Core.List.{List, [], _∷_, _++_}
 use lib.Dec.{ltb, eqb}
@@ -26,6 +27,12 @@ conversionNumber (Refused number) = number
 abbrev pub wordsWritten : Conversion → ℕ
 wordsWritten (Written words) = words
 wordsWritten (Refused number) = 0
+
+-- so what an answer tells: the number; beside 0 the words of the file, beside any other 0
+abbrev pub Tells : Conversion → List ℕ → ℕ → Type 0
+Tells answer ws room =
+    (conversionNumber answer ≡ cuNumber ws room)
+    × (wordsWritten answer ≡ cond (eqb (cuNumber ws room) 0) (fileWords (drawingOf ws)) 0)
 
 -- "Words of the lent output after the file stay"; on a refusal all of them stay
 unfoldable pub outputAfter : List ℕ → List ℕ → List ℕ

@@ -14,7 +14,7 @@ ghost use Rattle.words.specs.Search.{someBelow, firstBelow, lastBelow, sumBelow
 ghost use Rattle.convert.specs.Writing.{maxWidth, formatWord, badSpacing, badOffset, tooLarge, drawingNumber, layoutOf, headerWords, bitmapWord, pointerWord, widthEntry, fileWords, fileOf};
 ghost use Rattle.convert.specs.Cu.{columnsAt, leftFrom, drawingFrom};
 ghost use Rattle.convert.specs.Bitmap.{pictureDot, rasterAt, columnWord, pictureWord};
-ghost use Rattle.convert.specs.Conversion.{conversionOf, outputAfter};
+ghost use Rattle.convert.specs.Conversion.{conversionOf, outputAfter, Tells};
 
 // What a conversion answers: how many words it wrote, or the number of its refusal.
 pub enum Conversion {
@@ -556,6 +556,7 @@ fn write(cu: &[u16], places: &[usize], frame: Frame, layout: Layout, out: &mut [
 pub fn convert(cu: &[u16], out: &mut [u16]) -> Conversion
     ensures { λ r. ⌜ r ≡ conversionOf (now (cu .entry)) (length (now (out .entry))) ⌝ }
     ensures out { λ r. ⌜ now (out .exit) ≡ outputAfter (now (cu .entry)) (now (out .entry)) ⌝ }
+    ensures numbers { λ r. ⌜ Tells r (now (cu .entry)) (length (now (out .entry))) ⌝ }
 {
     let source = Source::of(cu);
     if source.number != 0 {

@@ -1,2 +1,4 @@
 pub mod Words
+pub mod Compute
+pub mod Limits
 pub mod Outcomes

@@ -1,31 +1,21 @@
--- The desk's calls, and what the functions for C answer: "The desk firmware is in C and hands font and label as bytes; it checks and
--- measures that way."
+-- What the functions for C take and answer, beyond what the crates below define: checking is `fontbytes: File.fileNumber`, measuring
+-- `paint: Label.measureFile`.
 use Prim.Native.Nat.{ℕ, _/_}
 use mathlib.Core.Bool.{cond}
 use mathlib.Core.List.{List, [], _∷_}
 use lib.Dec.{ltb, eqb}
-use lib.IntN.{ℤ}
 use lib.ListN.{length}
 use Rattle.words.specs.Word.{word, wordsOf, oddBytes, over}
 use Rattle.words.specs.Refusal.{firstOf}
-use Rattle.fonts.specs.Reading.{fontNumber}
 use Rattle.convert.specs.declared.Conversion.{Conversion}
 use Rattle.convert.specs.Conversion.{conversionNumber, wordsWritten}
 use Rattle.paint.specs.declared.Reply.{Reply}
-use Rattle.paint.specs.declared.Reply.the-variants.{Refused}
-use Rattle.paint.specs.Label.{Call, callOf, measureOf, replyNumber, replyPen, replySubstitutes}
+use Rattle.paint.specs.Label.{Call, callOf, replyNumber, replyPen, replySubstitutes}
 use Rattle.paint.specs.Sheet.{Sheet}
 use Rattle.sheets.specs.Sheet.{gatherAfter}
 use Rattle.desk.specs.declared.Call.{Call as Handed}
 use Rattle.desk.specs.declared.Answer.{Answer}
 use Rattle.desk.specs.declared.Written.{Written}
-
--- "14: an odd number of bytes where words are read from bytes", then the reader's numbers, on the words that the bytes spell
-unfoldable pub deskNumber : List ℕ → ℕ
-deskNumber bytes = cond (oddBytes bytes) 14 (fontNumber (wordsOf bytes))
-
-unfoldable pub deskMeasure : List ℕ → ℤ → List ℕ → Reply
-deskMeasure bytes x text = cond (oddBytes bytes) (Refused 14) (measureOf (wordsOf bytes) x text)
 
 -- a label call, by the struct that C hands; its shape stands apart
 abbrev pub callFrom : List ℕ → Handed → List ℕ → Call

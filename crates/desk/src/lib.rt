@@ -8,12 +8,12 @@ ghost use mathlib.Core.Path.{_≡_};
 ghost use mathlib.Core.List.{[], _∷_};
 ghost use lib.ListN.{length};
 ghost use Rattle.words.specs.Lent.{given, after};
-ghost use Rattle.words.specs.Word.{oddBytes};
+ghost use Rattle.fontbytes.specs.File.{fileNumber};
 ghost use Rattle.convert.specs.Conversion.{conversionOf, outputAfter};
 ghost use Rattle.paint.specs.Sheet.{sheetOf};
-ghost use Rattle.paint.specs.Label.{replyOf, paintAfter};
+ghost use Rattle.paint.specs.Label.{replyOf, paintAfter, measureFile};
 ghost use Rattle.sheets.specs.Sheet.{freshNumber, freshAfter, joinNumber, joinAfter, applyNumber, applyAfter, gatherReply};
-ghost use Rattle.desk.specs.Desk.{deskNumber, deskMeasure, callFrom, gatheredBy, answerOf, writtenOf};
+ghost use Rattle.desk.specs.Desk.{callFrom, gatheredBy, answerOf, writtenOf};
 ghost use Rattle.desk.specs.Desk.{wordsNumber, wordsAnswer, wordsAfter};
 
 // One label call as C hands it: on which panel, and where.
@@ -64,44 +64,26 @@ fn written_of(conversion: Conversion) -> Written
     }
 }
 
-fn odd(bytes: &[u8]) -> bool
-    ensures { λ r. ⌜ r ≡ oddBytes (given bytes) ⌝ }
-{
-    bytes.len() % 2 == 1
-}
-
 // Checks the bytes of a font file.
 #[no_mangle]
 pub extern "C" fn pailradish_check(font: &[u8]) -> u32
-    ensures { λ r. ⌜ r ≡ deskNumber (given font) ⌝ }
+    ensures { λ r. ⌜ r ≡ fileNumber (given font) ⌝ }
 {
-    if odd(font) {
-        return 14;
-    }
     fontbytes::number(font)
-}
-
-fn measured(font: &[u8], x: i32, text: &[u8]) -> Reply
-    ensures { λ r. ⌜ r ≡ deskMeasure (given font) x (given text) ⌝ }
-{
-    if odd(font) {
-        return Reply::Refused(14);
-    }
-    paint::measure_bytes(font, x, text)
 }
 
 // Measures a label with the font in these bytes.
 #[no_mangle]
 pub extern "C" fn pailradish_measure(font: &[u8], x: i32, text: &[u8]) -> Answer
-    ensures { λ r. ⌜ r ≡ answerOf (deskMeasure (given font) x (given text)) ⌝ }
+    ensures { λ r. ⌜ r ≡ answerOf (measureFile (given font) x (given text)) ⌝ }
 {
-    answer_of(measured(font, x, text))
+    answer_of(paint::measure_bytes(font, x, text))
 }
 
 fn words_number(bytes: &[u8], room: usize) -> u32
     ensures { λ r. ⌜ r ≡ wordsNumber (given bytes) room ⌝ }
 {
-    if odd(bytes) {
+    if words::odd_bytes(bytes) {
         return 14;
     }
     if room < bytes.len() / 2 {

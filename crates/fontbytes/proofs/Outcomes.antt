@@ -30,7 +30,7 @@ pub number-one : OneReply 1 number.Kinds.ps number.Kinds.r number.Reads.Post
 number-one κs a r o e e′ p q = p ∙ sym q
 
 pub read-one : OneReply 1 read.Kinds.ps read.Kinds.r read.Reads.Post
-read-one κs a r o e e′ p q = p ∙ sym q
+read-one κs a r o e e′ p q = p .0 ∙ sym (q .0)
 
 pub dummy-advance-one : OneReply 2 dummy-advance.Kinds.ps dummy-advance.Kinds.r dummy-advance.Reads.Post
 dummy-advance-one κs a r o e e′ p q = p ∙ sym q

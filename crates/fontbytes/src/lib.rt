@@ -10,8 +10,9 @@ ghost use Prim.Native.Nat.{_-_, _≤_};
 ghost use Rattle.words.specs.Word.{wordsOf};
 ghost use Rattle.fonts.specs.Strike.{headerOf, bodyOf, viewOf, codes};
 ghost use Rattle.fonts.specs.Entry.{advanceOf};
-ghost use Rattle.fonts.specs.Reading.{fallsFrom, numberBy, fontNumber, readingOf};
+ghost use Rattle.fonts.specs.Reading.{fallsFrom, numberBy, readingOf, readingNumber};
 ghost use Rattle.fonts.specs.Face.{stepBy};
+ghost use Rattle.fontbytes.specs.File.{fileNumber, fileReading};
 ghost use Rattle.fontbytes.specs.Parts.{pointerBytes, widthBytes, spelt, forStep};
 
 fn header(font: &[u8]) -> Header
@@ -104,8 +105,8 @@ fn number_by(font: &[u8], v: View) -> u32
     fonts::table_number(v, falls(table), dummy)
 }
 
-// Reads a font: what finds its glyphs, or the number of its refusal.
-pub fn read(font: &[u8]) -> Reading
+// Reads the words that the bytes spell.
+fn read_words(font: &[u8]) -> Reading
     ensures { λ r. ⌜ r ≡ readingOf (wordsOf (now (font .entry))) ⌝ }
 {
     let v = view(font);
@@ -116,9 +117,20 @@ pub fn read(font: &[u8]) -> Reading
     Reading::Accepted(v)
 }
 
+// Reads a font: what finds its glyphs, or the number of its refusal.
+pub fn read(font: &[u8]) -> Reading
+    ensures { λ r. ⌜ r ≡ fileReading (now (font .entry)) ⌝ }
+    ensures number { λ r. ⌜ readingNumber r ≡ fileNumber (now (font .entry)) ⌝ }
+{
+    if words::odd_bytes(font) {
+        return Reading::Refused(14);
+    }
+    read_words(font)
+}
+
 // The number of a font file's refusal; 0 where it is accepted.
 pub fn number(font: &[u8]) -> u32
-    ensures { λ r. ⌜ r ≡ fontNumber (wordsOf (now (font .entry))) ⌝ }
+    ensures { λ r. ⌜ r ≡ fileNumber (now (font .entry)) ⌝ }
 {
     match read(font) {
         Reading::Refused(number) => number,

@@ -1,13 +1,13 @@
 -- All the definitions of this crate and of those below it, opened at once, so that a worked case computes: `unfolding computing`.
 use Rattle.fonts.specs.Strike.{kernedFormat, bodyAt, headerBy, headerOf, bodyOf, viewOf, bitmapAt, pointersOf, widthsOf, fileSum}
-use Rattle.fonts.specs.Entry.{present, columnsOf, leftOf, advanceOf}
+use Rattle.fonts.specs.Entry.{present, columnsOf, leftOf, leftFromPen, advanceOf}
 use Rattle.fonts.specs.Reading.{tooShort, badFormat, kernedTooShort, badCodes, badBox, badSizes, lengthsDiffer}
-use Rattle.fonts.specs.Reading.{fallsFrom, badPointers, noDummy, headNumber, tableNumber, numberBy, fontNumber, accepted, readingOf}
+use Rattle.fonts.specs.Reading.{fallsFrom, badPointers, noDummy, headNumber, tableNumber, numberBy, fontNumber, accepted, readingFor}
 use Rattle.fonts.specs.Face.{exists, shown, glyphBy, glyphFrom, stepBy, dotOf, dotsOf, faceFrom, faceOf, rowOf}
 use Rattle.words.proofs.Compute.{computing as below}
 
 unfoldable pub tables : Unit {0}
-unfolding kernedFormat bodyAt headerBy headerOf bodyOf viewOf bitmapAt pointersOf widthsOf fileSum present columnsOf leftOf advanceOf
+unfolding kernedFormat bodyAt headerBy headerOf bodyOf viewOf bitmapAt pointersOf widthsOf fileSum present columnsOf leftOf leftFromPen advanceOf
 tables = tt
 
 unfoldable pub tests : Unit {0}
@@ -15,5 +15,5 @@ unfolding tooShort badFormat kernedTooShort badCodes badBox badSizes lengthsDiff
 tests = tt
 
 unfoldable pub computing : Unit {0}
-unfolding below tables tests numberBy fontNumber accepted readingOf exists shown glyphBy glyphFrom stepBy dotOf dotsOf faceFrom faceOf rowOf
+unfolding below tables tests numberBy fontNumber accepted readingFor exists shown glyphBy glyphFrom stepBy dotOf dotsOf faceFrom faceOf rowOf
 computing = tt

@@ -3,4 +3,7 @@ pub mod Falling
 pub mod Dots
 pub mod Readings
 pub mod Steps
+pub mod Accepted
+pub mod Rows
+pub mod Left
 pub mod Outcomes

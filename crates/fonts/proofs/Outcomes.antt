@@ -70,7 +70,7 @@ pub number-one : OneReply 1 number.Kinds.ps number.Kinds.r number.Reads.Post
 number-one κs a r o e e′ p q = p ∙ sym q
 
 pub read-one : OneReply 1 read.Kinds.ps read.Kinds.r read.Reads.Post
-read-one κs a r o e e′ p q = p ∙ sym q
+read-one κs a r o e e′ p q = p .0 ∙ sym (q .0)
 
 pub step-by-one : OneReply 0 step-by.Kinds.ps step-by.Kinds.r step-by.Reads.Post
 step-by-one κs a r o e e′ p q = p ∙ sym q

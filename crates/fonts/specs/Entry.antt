@@ -3,8 +3,9 @@ use Prim.Native.Nat.{ℕ, _+_, _-_, _/_, _%_}
 use mathlib.Core.Bool.{Bool, cond, not}
 use mathlib.Core.List.{List}
 use lib.Dec.{eqb}
+use lib.IntN.{ℤ, pos, _+ℤ_}
 use Rattle.words.specs.Word.{word}
-use Rattle.words.specs.Place.{placeOfWord}
+use Rattle.words.specs.Place.{placeOfWord, signedWord}
 use Rattle.fonts.specs.declared.Header.{Header}
 use Rattle.fonts.specs.declared.Entry.{Entry}
 use Rattle.fonts.specs.Strike.{kerned}
@@ -24,6 +25,10 @@ columnsOf e = e .right - e .left
 -- "the left column goes to pen + FBBox + offset"; plain: "to the pen". "the high byte is BBox - FBBox"
 unfoldable pub leftOf : Header → Entry → ℕ
 leftOf h e = cond (kerned h) (placeOfWord (h .fbbox) + e .width / 256) 2048
+
+-- the same from the pen on, in whole numbers with a sign: FBBox + offset; plain, 0. "FBBox and FBBoy are two's complement"
+unfoldable pub leftFromPen : Header → Entry → ℤ
+leftFromPen h e = cond (kerned h) (signedWord (h .fbbox) +ℤ pos (e .width / 256)) (pos 0)
 
 -- "the pen moves by Wx"; plain: "by the picture's width". "the low byte is the spacing Wx"
 unfoldable pub advanceOf : Header → Entry → ℕ

@@ -91,8 +91,12 @@ fontNumber ws = numberBy (viewOf ws) ws
 unfoldable pub accepted : List ℕ → Bool
 accepted ws = eqb (fontNumber ws) 0
 
-unfoldable pub readingOf : List ℕ → Reading
-readingOf ws = cond (accepted ws) (Accepted (viewOf ws)) (Refused (fontNumber ws))
+-- what reading answers, by the number of the refusal and the view
+unfoldable pub readingFor : ℕ → View → Reading
+readingFor number v = cond (eqb number 0) (Accepted v) (Refused number)
+
+abbrev pub readingOf : List ℕ → Reading
+readingOf ws = readingFor (fontNumber ws) (viewOf ws)
 
 -- the paper's number for each answer
 abbrev pub readingNumber : Reading → ℕ

@@ -7,7 +7,7 @@ ghost use Rattle.fonts.specs.Strike.{bitmapAt, bitmapWords, pointersAt, 
 ghost use Rattle.fonts.specs.Entry.{entryAt, present, columnsOf, leftOf, advanceOf};
 ghost use Rattle.fonts.specs.Reading.{badFormat, kernedTooShort, badCodes, badBox, badSizes, lengthsDiffer};
 ghost use Rattle.fonts.specs.Reading.{fallsFrom, badPointers, noDummy};
-ghost use Rattle.fonts.specs.Reading.{headNumber, tableNumber, numberBy, fontNumber, readingOf};
+ghost use Rattle.fonts.specs.Reading.{headNumber, tableNumber, numberBy, fontNumber, readingOf, readingNumber};
 ghost use Rattle.fonts.specs.Face.{exists, shown, glyphBy, glyphFrom, stepBy, stepOf, dotOf, dotsOf, rowOf};
 
 // The words at the front of a font file that the reader looks at. A plain file has no box, and its fbbox is 0.
@@ -439,6 +439,7 @@ fn number_by(font: &[u16], v: View) -> u32
 // Reads a font: what finds its glyphs, or the number of its refusal.
 pub fn read(font: &[u16]) -> Reading
     ensures { λ r. ⌜ r ≡ readingOf (now (font .entry)) ⌝ }
+    ensures number { λ r. ⌜ readingNumber r ≡ fontNumber (now (font .entry)) ⌝ }
 {
     let v = View::of(font);
     let refusal = number_by(font, v);

@@ -48,6 +48,7 @@ good-panel s room e =
 pub record GoodLabel (l : Label) (bytes : ℕ) : Type 0 where
   pub strip : l .strip ≤ 31
   pub place : outside (l .x) ≡ false
+  pub baseline : outside (l .y) ≡ false
   pub short : bytes ≤ 64
 
 pub good-label : (l : Label) (bytes : ℕ) → labelNumber l bytes ≡ 0 → GoodLabel l bytes
@@ -59,6 +60,7 @@ good-label l bytes e =
     record {
       strip = ltb-false 31 (l .strip) (nine .0);
       place = neither (outside (l .x)) (outside (l .y)) (ten .0) .0;
+      baseline = neither (outside (l .x)) (outside (l .y)) (ten .0) .1;
       short = ltb-false 64 bytes (eleven .0);
     }
 

@@ -1,10 +1,9 @@
 -- What a label leaves alone: every dot of a word that lies outside the label's strip.
 use Prim.Native.Nat.{ℕ, _+_, _*_, _/_, _%_, _<_}
-use mathlib.Core.Path.{_≡_, refl, _∙_}
+use mathlib.Core.Path.{_≡_, _∙_}
 use mathlib.Core.List.{List, [], _∷_}
 use Rattle.words.specs.Effect.{Leaves}
 use Rattle.words.proofs.Bits.{bit-word-of}
-use Rattle.words.proofs.BitLaws.{on-digit}
 use Rattle.words.proofs.Effects.{mode-leaves}
 use Rattle.words.proofs.DotByDot.{identity-leaves, join-leaves}
 use Rattle.fonts.specs.declared.Glyph.{Glyph}
@@ -15,8 +14,7 @@ use Rattle.paint.specs.declared.Pen.{Pen}
 use Rattle.paint.specs.Panel.{stripOf}
 use Rattle.paint.specs.Label.{Call, effectWith, callEffect}
 use Rattle.paint.specs.Pen.{penAfter, strokeOf, mark, maskFrom, maskAt, pictureEffect, labelEffect, inStrip}
-use Rattle.paint.proofs.Marks.{mark-bit, mark-beside, mask-lt, in-strip-bit}
-use Rattle.paint.proofs.Landing.{strip-of-column}
+use Rattle.paint.proofs.Marks.{mark-bit, mark-beside, mask-lt}
 use Rattle.paint.proofs.Demand.{face-bit}
 
 -- the column of the panel that dot j of word i lies on, where a row has so many words
@@ -41,16 +39,8 @@ label-leaves face bits k (c ∷ text) pen i j less out =
     (mode-leaves (k .mode) _ j (mask-lt (face .dot) k pen g row start (bits g)) less no-mark)
     (label-leaves face bits k text (penAfter pen (stepOf g)) i j less out)
 
--- a column of another strip, or of none
-pub other-strip : (s : Shape) (k column : ℕ) → (column / s .width ≡ k → ⊥) → inStrip (stripOf s k) column ≡ 0
-other-strip s k column other =
-    let inside = inStrip (stripOf s k) column in
-    on-digit (λ (b : ℕ). inside ≡ b → inside ≡ 0)
-    (λ e. e) (λ e. absurd (other (strip-of-column s k column e))) inside (in-strip-bit (stripOf s k) column) refl
-
-pub call-leaves : (s : Shape) (call : Call) (i j : ℕ) → j < 16 → (columnOf s i j / s .width ≡ call .label .strip → ⊥)
+pub call-leaves : (s : Shape) (call : Call) (i j : ℕ) → j < 16 → inStrip (stripOf s (call .label .strip)) (columnOf s i j) ≡ 0
     → Leaves (callEffect s call i) j
 unfolding effectWith strokeOf
-call-leaves s call i j less other =
-    label-leaves (faceOf (call .font)) (face-bit (call .font)) (strokeOf s (call .label)) (call .text) _ i j less
-    (other-strip s (call .label .strip) (columnOf s i j) other)
+call-leaves s call i j less out =
+    label-leaves (faceOf (call .font)) (face-bit (call .font)) (strokeOf s (call .label)) (call .text) _ i j less out

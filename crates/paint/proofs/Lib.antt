@@ -1,12 +1,14 @@
 pub mod Compute
 pub mod Along
 pub mod Replies
+pub mod Telling
 pub mod Marks
 pub mod Rows
 pub mod Labels
 pub mod Slices
 pub mod Sizes
 pub mod Accepted
+pub mod Strips
 pub mod Landing
 pub mod Demand
 pub mod Beside

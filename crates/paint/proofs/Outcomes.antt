@@ -20,25 +20,25 @@ pub bad-panel-one : OneReply 0 bad-panel.Kinds.ps bad-panel.Kinds.r bad-panel.Re
 bad-panel-one κs a r o e e′ p q = p ∙ sym q
 
 pub measure-one : OneReply 2 measure.Kinds.ps measure.Kinds.r measure.Reads.Post
-measure-one κs a r o e e′ p q = p ∙ sym q
+measure-one κs a r o e e′ p q = p .0 ∙ sym (q .0)
 
 pub measure-bytes-one : OneReply 2 measure-bytes.Kinds.ps measure-bytes.Kinds.r measure-bytes.Reads.Post
-measure-bytes-one κs a r o e e′ p q = p ∙ sym q
+measure-bytes-one κs a r o e e′ p q = p .0 ∙ sym (q .0)
 
 pub paint-label-one : (κs : Lfts 3) (a : Dens κs paint-label.Kinds.ps) (r o : resT paint-label.Kinds.r κs .Denot)
     (e e′ : AtExit (endedOf 3 paint-label.Kinds.ps paint-label.Kinds.r) κs)
     → paint-label.Reads.Post κs a r e → paint-label.Reads.Post κs a o e′
     → (r ≡ o) × (now (e .1 .1 .1 .1 .1 .0) ≡ now (e′ .1 .1 .1 .1 .1 .0))
-paint-label-one κs a r o e e′ p q = (p .0 ∙ sym (q .0), p .1 ∙ sym (q .1))
+paint-label-one κs a r o e e′ p q = (p .0 ∙ sym (q .0), p .1 .0 ∙ sym (q .1 .0))
 
 pub join-label-one : (κs : Lfts 4) (a : Dens κs join-label.Kinds.ps) (r o : resT join-label.Kinds.r κs .Denot)
     (e e′ : AtExit (endedOf 4 join-label.Kinds.ps join-label.Kinds.r) κs)
     → join-label.Reads.Post κs a r e → join-label.Reads.Post κs a o e′
     → (r ≡ o) × (now (e .1 .1 .1 .1 .1 .0) ≡ now (e′ .1 .1 .1 .1 .1 .0)) × (now (e .1 .1 .1 .1 .1 .1 .0) ≡ now (e′ .1 .1 .1 .1 .1 .1 .0))
-join-label-one κs a r o e e′ p q = (p .0 ∙ sym (q .0), p .1 .0 ∙ sym (q .1 .0), p .1 .1 ∙ sym (q .1 .1))
+join-label-one κs a r o e e′ p q = (p .0 ∙ sym (q .0), p .1 .0 ∙ sym (q .1 .0), p .1 .1 .0 ∙ sym (q .1 .1 .0))
 
 pub paint-one : (κs : Lfts 3) (a : Dens κs paint.Kinds.ps) (r o : resT paint.Kinds.r κs .Denot)
     (e e′ : AtExit (endedOf 3 paint.Kinds.ps paint.Kinds.r) κs)
     → paint.Reads.Post κs a r e → paint.Reads.Post κs a o e′
     → (r ≡ o) × (now (e .1 .1 .1 .1 .0) ≡ now (e′ .1 .1 .1 .1 .0))
-paint-one κs a r o e e′ p q = (p .0 ∙ sym (q .0), p .1 ∙ sym (q .1))
+paint-one κs a r o e e′ p q = (p .0 ∙ sym (q .0), p .1 .0 ∙ sym (q .1 .0))

@@ -24,7 +24,7 @@ use Rattle.paint.specs.declared.Reply.{Reply}
 use Rattle.paint.specs.declared.Reply.the-variants.{Done, Refused}
 use Rattle.paint.specs.Panel.{panelWords, badPanel, panelNumber}
 use Rattle.paint.specs.Label.{Call, labelNumber, numberWith, callNumber, lastPen, finishOf, replyFor, replyWith, replyOf}
-use Rattle.paint.specs.Label.{effectWith, paintWith, paintAfter, joinWith, measureNumber, measureWith, measureOf}
+use Rattle.paint.specs.Label.{effectWith, paintWith, paintAfter, joinWith, measureNumber, numberAfter, measureWith, measureFor}
 use Rattle.paint.specs.Sheet.{Sheet, lengths, joined}
 use Rattle.paint.proofs.Slices.{shorter-number}
 
@@ -95,12 +95,6 @@ module _ (font : List ℕ) where
   face-read v same = ap (λ (w : View). faceFrom w font) same
 
   module _ (v : View) (good : fontNumber font ≡ 0) (same : v ≡ viewOf font) where
-    pub measured : (x : ℤ) (text : List ℕ) → measureWith (faceFrom v font) x text ≡ measureOf font x text
-    unfolding measureWith measureOf
-    measured x text =
-        ap (λ (face : Face). replyFor (measureNumber x (length text)) (lastPen face x text)) (face-read v same)
-        ∙ ap (λ (n : ℕ). replyFor n (lastPen (faceOf font) x text)) (font-passed (measureNumber x (length text)) good)
-
     module _ (s : Shape) (l : Label) (text : List ℕ) where
       abbrev call : Call
       call = record { font = font; label = l; text = text }
@@ -134,10 +128,17 @@ module _ (call : Call) (n : ℕ) (e : n ≡ fontNumber (call .font)) (some : n �
   unfolding paintAfter
   paint-refused s panel = rw (← number-refused s (length panel ∷ [])) (rw (ne-eqb n 0 some))
 
-pub measure-refused : (font : List ℕ) (x : ℤ) (text : List ℕ) (n : ℕ) → n ≡ fontNumber font → (n ≡ 0 → ⊥)
-    → Refused n ≡ measureOf font x text
-unfolding measureOf
-measure-refused font x text n e some = replies-refused n _ _ (font-refuses font n _ e some) some
+-- measuring, where the font in words or in bytes has this number
+module _ (number : ℕ) (font : List ℕ) (x : ℤ) (text : List ℕ) where
+  pub measure-refused : (n : ℕ) → n ≡ number → (n ≡ 0 → ⊥) → Refused n ≡ measureFor number font x text
+  unfolding measureFor numberAfter
+  measure-refused n e some = replies-refused n _ _ (stage-stops n number _ e some) some
+
+  pub measured : (v : View) → number ≡ 0 → v ≡ viewOf font → measureWith (faceFrom v font) x text ≡ measureFor number font x text
+  unfolding measureWith measureFor numberAfter
+  measured v good same =
+      ap (λ (face : Face). replyFor (measureNumber x (length text)) (lastPen face x text)) (face-read font v same)
+      ∙ ap (λ (n : ℕ). replyFor n (lastPen (faceOf font) x text)) (stage-goes-on _ 0 number _ (sym good) refl refl)
 
 -- ---- 8, and then the label's own numbers
 

@@ -1,17 +1,20 @@
 -- A label call: its refusals, its reply and what it leaves on the panel or the sheet. What ends in `With` speaks of a font that has been
 -- read, by its face; the rest of a call that has a file.
 use Prim.Native.Nat.{ℕ}
+use mathlib.Core.Path.{_≡_}
 use mathlib.Core.Bool.{Bool, true, false, cond, _||_}
 use mathlib.Core.List.{List, [], _∷_}
 use lib.Dec.{ltb, eqb}
 use lib.IntN.{ℤ, pos}
 use lib.ListN.{length}
 use Rattle.words.specs.declared.Effect.{Effect}
+use Rattle.words.specs.Word.{wordsOf}
 use Rattle.words.specs.Refusal.{firstOf, orElse}
 use Rattle.words.specs.Place.{outside, numberAt}
 use Rattle.words.specs.Effect.{altered}
 use Rattle.fonts.specs.Reading.{fontNumber}
 use Rattle.fonts.specs.Face.{Face, faceOf}
+use Rattle.fontbytes.specs.File.{fileNumber}
 use Rattle.paint.specs.declared.Shape.{Shape}
 use Rattle.paint.specs.declared.Label.{Label}
 use Rattle.paint.specs.declared.Pen.{Pen}
@@ -80,6 +83,19 @@ abbrev pub replySubstitutes : Reply → ℕ
 replySubstitutes (Done finish) = finish .substitutes
 replySubstitutes (Refused number) = 0
 
+-- so what a reply tells: the number; beside 0 the pen and the substitutes, beside any other zeros
+abbrev pub Tells : Reply → ℕ → Pen → Type 0
+Tells reply number last =
+    (replyNumber reply ≡ number)
+    × (replyPen reply ≡ cond (eqb number 0) (numberAt (last .place)) (pos 0))
+    × (replySubstitutes reply ≡ cond (eqb number 0) (last .substitutes) 0)
+
+abbrev pub TellsWith : Reply → Face → Shape → List ℕ → Label → List ℕ → Type 0
+TellsWith reply face s lent l text = Tells reply (numberWith s lent l (length text)) (lastPen face (l .x) text)
+
+abbrev pub TellsCall : Reply → Shape → List ℕ → Call → Type 0
+TellsCall reply s lent call = Tells reply (callNumber s lent call) (lastPen (faceOf (call .font)) (call .label .x) (call .text))
+
 -- what an accepted label does to word i of the panel
 unfoldable pub effectWith : Face → Shape → Label → List ℕ → ℕ → Effect
 effectWith face s l text i = labelEffect face (strokeOf s l) (penAt (l .x)) text i
@@ -113,5 +129,19 @@ measureNumber x bytes = firstOf ((outside x, 10) ∷ (ltb 64 bytes, 11) ∷ [])
 unfoldable pub measureWith : Face → ℤ → List ℕ → Reply
 measureWith face x text = replyFor (measureNumber x (length text)) (lastPen face x text)
 
-unfoldable pub measureOf : List ℕ → ℤ → List ℕ → Reply
-measureOf font x text = replyFor (orElse (fontNumber font) (measureNumber x (length text))) (lastPen (faceOf font) x text)
+-- the number of the font's refusal first
+unfoldable pub numberAfter : ℕ → ℤ → ℕ → ℕ
+numberAfter font x bytes = orElse font (measureNumber x bytes)
+
+unfoldable pub measureFor : ℕ → List ℕ → ℤ → List ℕ → Reply
+measureFor number font x text = replyFor (numberAfter number x (length text)) (lastPen (faceOf font) x text)
+
+abbrev pub TellsMeasure : Reply → ℕ → List ℕ → ℤ → List ℕ → Type 0
+TellsMeasure reply number font x text = Tells reply (numberAfter number x (length text)) (lastPen (faceOf font) x text)
+
+abbrev pub measureOf : List ℕ → ℤ → List ℕ → Reply
+measureOf font = measureFor (fontNumber font) font
+
+-- "The desk firmware is in C and hands font and label as bytes; it checks and measures that way."
+abbrev pub measureFile : List ℕ → ℤ → List ℕ → Reply
+measureFile bytes = measureFor (fileNumber bytes) (wordsOf bytes)

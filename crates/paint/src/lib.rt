@@ -14,7 +14,9 @@ ghost use Rattle.words.specs.Lent.{given, after};
 ghost use Rattle.words.specs.Place.{numberAt};
 ghost use Rattle.words.specs.Word.{wordOf, wordsOf};
 ghost use Rattle.words.specs.Effect.{effectOf, cleared};
+ghost use Rattle.fonts.specs.Reading.{fontNumber};
 ghost use Rattle.fonts.specs.Face.{dotOf, faceFrom};
+ghost use Rattle.fontbytes.specs.File.{fileNumber};
 ghost use Rattle.paint.specs.Panel.{panelWords, stripOf, badShape, badPanel};
 ghost use Rattle.paint.specs.Pen.{penAt, penAfter, penAlong, speltSteps, stepsOf, farthest, Starting, Near};
 ghost use Rattle.paint.specs.Pen.{strokeOf, strokeWords, Drawable};
@@ -22,7 +24,8 @@ ghost use Rattle.paint.specs.Pen.{inRow, onPanel, inStrip, dotAlong, mas
 ghost use Rattle.paint.specs.Sheet.{sheetOf, lengthsOf};
 ghost use Rattle.paint.specs.declared.Reply.the-variants.{Done};
 ghost use Rattle.paint.specs.Label.{callOf, labelNumber, numberWith, lastPen, finishOf, replyWith, replyOf};
-ghost use Rattle.paint.specs.Label.{paintWith, paintAfter, joinWith, measureNumber, measureWith, measureOf};
+ghost use Rattle.paint.specs.Label.{paintWith, paintAfter, joinWith, measureNumber, measureWith, measureOf, measureFile};
+ghost use Rattle.paint.specs.Label.{TellsWith, TellsCall, TellsMeasure};
 
 // The size of a panel: words per row, rows, and the columns of a strip.
 #[repr(C)]
@@ -268,6 +271,7 @@ fn measure_read(font: &[u16], v: View, x: i32, text: &[u8]) -> Reply
 // The reply of an accepted painting, with no panel.
 pub fn measure(font: &[u16], x: i32, text: &[u8]) -> Reply
     ensures { λ r. ⌜ r ≡ measureOf (given font) x (given text) ⌝ }
+    ensures numbers { λ r. ⌜ TellsMeasure r (fontNumber (given font)) (given font) x (given text) ⌝ }
 {
     match fonts::read(font) {
         Reading::Refused(number) => Reply::Refused(number),
@@ -288,7 +292,8 @@ fn measure_read_bytes(font: &[u8], v: View, x: i32, text: &[u8]) -> Reply
 
 // Measuring with the font in bytes, which are read where they lie.
 pub fn measure_bytes(font: &[u8], x: i32, text: &[u8]) -> Reply
-    ensures { λ r. ⌜ r ≡ measureOf (wordsOf (given font)) x (given text) ⌝ }
+    ensures { λ r. ⌜ r ≡ measureFile (given font) x (given text) ⌝ }
+    ensures numbers { λ r. ⌜ TellsMeasure r (fileNumber (given font)) (wordsOf (given font)) x (given text) ⌝ }
 {
     match fontbytes::read(font) {
         Reading::Refused(number) => Reply::Refused(number),
@@ -569,6 +574,7 @@ pub fn paint_label(
 ) -> Reply
     ensures { λ r. ⌜ r ≡ replyWith (faceFrom v (given font)) s (length (given panel) ∷ []) l (given text) ⌝ }
     ensures panel { λ r. ⌜ after panel ≡ paintWith (faceFrom v (given font)) s l (given text) (given panel) ⌝ }
+    ensures numbers { λ r. ⌜ TellsWith r (faceFrom v (given font)) s (length (given panel) ∷ []) l (given text) ⌝ }
 {
     let refusal = number_with(s, panel.len(), l, text.len());
     if refusal != 0 {
@@ -590,6 +596,7 @@ pub fn join_label(
     ensures { λ r. ⌜ r ≡ replyWith (faceFrom v (given font)) s (lengthsOf (given keep) (given flip)) l (given text) ⌝ }
     ensures keep { λ r. ⌜ after keep ≡ joinWith (faceFrom v (given font)) s l (given text) (sheetOf (given keep) (given flip)) .keep ⌝ }
     ensures flip { λ r. ⌜ after flip ≡ joinWith (faceFrom v (given font)) s l (given text) (sheetOf (given keep) (given flip)) .flip ⌝ }
+    ensures numbers { λ r. ⌜ TellsWith r (faceFrom v (given font)) s (lengthsOf (given keep) (given flip)) l (given text) ⌝ }
 {
     let shorter = words::least(keep.len(), flip.len());
     let refusal = number_with(s, shorter, l, text.len());
@@ -603,6 +610,7 @@ pub fn join_label(
 pub fn paint(font: &[u16], s: Shape, l: Label, text: &[u8], panel: &mut [u16]) -> Reply
     ensures { λ r. ⌜ r ≡ replyOf s (length (given panel) ∷ []) (callOf (given font) l (given text)) ⌝ }
     ensures panel { λ r. ⌜ after panel ≡ paintAfter s (callOf (given font) l (given text)) (given panel) ⌝ }
+    ensures numbers { λ r. ⌜ TellsCall r s (length (given panel) ∷ []) (callOf (given font) l (given text)) ⌝ }
 {
     match fonts::read(font) {
         Reading::Refused(number) => Reply::Refused(number),

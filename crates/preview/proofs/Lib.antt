@@ -4,5 +4,10 @@ pub mod Signs
 pub mod Same
 pub mod Words
 pub mod Lines
+pub mod Failing
+pub mod Keeping
+pub mod Cutting
+pub mod Spelling
+pub mod Taking
 pub mod Pictures
 pub mod Outcomes

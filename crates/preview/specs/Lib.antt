@@ -1,3 +1,5 @@
+pub mod Help
 pub mod Line
+pub mod Lines
 pub mod Number
 pub mod Picture

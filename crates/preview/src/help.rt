@@ -1,7 +1,10 @@
 // The help text, and the argument that asks for it.
+use crate::message::say_written;
 use libc::STDOUT_FILENO;
 ghost use mathlib.Core.Path.{_≡_};
 ghost use mathlib.Core.Bool.{true};
+ghost use Rattle.words.specs.Lent.{given};
+ghost use Rattle.preview.specs.Help.{HelpAsked};
 
 fn same(a: &[u8], b: &[u8]) -> bool
     ensures { λ r. ⌜ (r ≡ true → now (a .entry) ≡ now (b .entry)) × (now (a .entry) ≡ now (b .entry) → r ≡ true) ⌝ }
@@ -19,19 +22,18 @@ fn same(a: &[u8], b: &[u8]) -> bool
     true
 }
 
-// Whether `--help` is the only argument.
-pub fn is_asked() -> bool {
-    if os::arg_count() != 2 {
+// Whether `--help` is the only argument. The name of the program is counted too.
+pub fn is_asked(count: usize, first: &[u8]) -> bool
+    ensures { λ r. ⌜ (r ≡ true → HelpAsked count (given first)) × (HelpAsked count (given first) → r ≡ true) ⌝ }
+{
+    if count != 2 {
         return false;
     }
-    let mut text = io::buffer();
-    let n = os::arg(1, &mut text);
-    same(&text[..n], b"--help")
+    same(first, b"--help")
 }
 
-// Says whether all of it was written.
-pub fn print() -> bool {
-    io::write_all(
+pub fn print() {
+    say_written(io::write_all(
         STDOUT_FILENO,
         b"usage: preview FONT R H W < LINES > PICTURE
 
@@ -48,5 +50,5 @@ Empty lines, and lines that begin with #, are passed over.
 
 What is wrong with a line, and how many codes of it the font does not have, is said on standard error; the rest is painted all the same.
 ",
-    )
+    ));
 }

@@ -5,24 +5,19 @@ mod input;
 mod label;
 mod message;
 mod number;
+mod painting;
 mod picture;
 
-use input::LINE;
-use input::Lines;
-use label::Line;
 use libc::STDOUT_FILENO;
 use message::say;
-use message::say_line;
 use message::say_refused;
-use message::say_reply;
+use message::say_written;
 use number::NONE;
 use paint::Shape;
 use picture::PRINTED;
 use reading::BYTES;
-ghost use mathlib.Core.Path.{_≡_};
 ghost use Prim.Native.Nat.{_≤_};
 ghost use Rattle.preview.specs.Number.{none};
-ghost use Rattle.preview.specs.Line.{afterLine};
 
 // The words of the longest font file.
 const FONT: usize = 32_768;
@@ -39,106 +34,6 @@ enum Arguments {
     Wrong,
 }
 
-// Paints the label of a line, and says what there is to say of it.
-fn paint_line(line: &[u8], number: u64, font: &[u16], s: Shape, panel: &mut [u16])
-    ensures { λ r. ⌜ now (panel .exit) ≡ afterLine (now (font .entry)) s (now (line .entry)) (now (panel .entry)) ⌝ }
-{
-    let read = label::line_of(line);
-    match read {
-        Line::Passed => {}
-        Line::Other => {
-            say_line(number);
-            say(b": not a label\n");
-        }
-        Line::Label(label) => {
-            let text = label::text_of(line);
-            let reply = paint::paint(font, s, label, text, panel);
-            say_reply(number, reply);
-        }
-    }
-}
-
-// Takes one more byte of the lines.
-fn take_byte(
-    b: u8,
-    before: Lines,
-    line: &mut [u8; LINE],
-    font: &[u16],
-    s: Shape,
-    panel: &mut [u16],
-) -> Lines {
-    if b == b'\n' {
-        paint_line(
-            input::line_so_far(line, before),
-            before.number,
-            font,
-            s,
-            panel,
-        );
-        return before.next();
-    }
-    input::put(line, before.length, b);
-    before.longer()
-}
-
-fn take_bytes(
-    bytes: &[u8],
-    before: Lines,
-    line: &mut [u8; LINE],
-    font: &[u16],
-    s: Shape,
-    panel: &mut [u16],
-) -> Lines {
-    let mut lines = before;
-    let mut i = 0;
-    while i < bytes.len() {
-        lines = take_byte(bytes[i], lines, line, font, s, panel);
-        i += 1;
-    }
-    lines
-}
-
-// Paints all lines; says whether every read went well. A proved loop has to end, and nothing says that the lines do: the turns are
-// counted down from a number that no run uses up.
-fn paint_lines(font: &[u16], s: Shape, panel: &mut [u16]) -> bool {
-    let mut bytes = [0u8; BYTES];
-    let mut line = [0u8; LINE];
-    let mut lines = Lines::first();
-    let mut turns = u64::MAX;
-    while 0 < turns {
-        turns -= 1;
-        let input = input::read_some(&mut bytes);
-        if input.failed {
-            return false;
-        }
-        if input.bytes == 0 {
-            paint_line(
-                input::line_so_far(&line, lines),
-                lines.number,
-                font,
-                s,
-                panel,
-            );
-            return true;
-        }
-        lines = take_bytes(
-            input::first_of(&bytes, input.bytes),
-            lines,
-            &mut line,
-            font,
-            s,
-            panel,
-        );
-    }
-    false
-}
-
-fn say_written(whole: bool) {
-    if !whole {
-        say(b"write failed\n");
-    }
-}
-
 fn print(s: Shape, panel: &[u16]) {
     let mut printed = [0u8; PRINTED];
     let n = picture::picture(s, panel, &mut printed);
@@ -153,7 +48,7 @@ fn run(font: &[u16], s: Shape) {
         say_refused(8);
         return;
     }
-    if !paint_lines(font, s, &mut panel) {
+    if !painting::paint_lines(font, s, &mut panel) {
         say(b"read failed\n");
         return;
     }
@@ -166,7 +61,7 @@ fn run_with(bytes: &[u8], s: Shape) {
         say(b"font: too long\n");
         return;
     }
-    if bytes.len() % 2 == 1 {
+    if words::odd_bytes(bytes) {
         say(b"font");
         say_refused(14);
         return;
@@ -226,8 +121,10 @@ fn read_arguments() -> Arguments {
 }
 
 fn main() {
-    if help::is_asked() {
-        say_written(help::print());
+    let mut first = io::buffer();
+    let n = os::arg(1, &mut first);
+    if help::is_asked(os::arg_count(), &first[..n]) {
+        help::print();
         return;
     }
     let told = read_arguments();
@@ -235,7 +132,5 @@ fn main() {
         say(b"usage: preview FONT R H W\n");
         return;
     };
-    let mut path = io::buffer();
-    let n = os::arg(1, &mut path);
-    run_file(&path[..n], s);
+    run_file(&first[..n], s);
 }

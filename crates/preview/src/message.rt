@@ -6,6 +6,13 @@ pub fn say(text: &[u8]) {
     io::write_all(STDERR_FILENO, text);
 }
 
+// What there is to say of a writing, by whether it was whole.
+pub fn say_written(whole: bool) {
+    if !whole {
+        say(b"write failed\n");
+    }
+}
+
 fn say_number(number: u64) {
     io::print_decimal(STDERR_FILENO, number);
 }

@@ -24,7 +24,7 @@ use Rattle.paint.specs.Sheet.{Sheet, lengths, effectAt}
 use Rattle.paint.proofs.Accepted.{good-panel, just-enough}
 use Rattle.paint.proofs.Slices.{passed-alone}
 use Rattle.sheets.specs.Sheet.{SameSheet, freshAfter, joinAfter, applyAfter, gatherAfter, gatherReply}
-use Rattle.sheets.specs.Calls.{paintAll, gatherAll, paintReplies, gatherReplies, SameForStrips}
+use Rattle.sheets.specs.Calls.{paintAll, gatherAll, paintReplies, gatherReplies, ofStrip, repliesFor, SameForStrips}
 use Rattle.sheets.proofs.Effects.{ownNumber, own-is, callsEffect, calls-words, calls-cut, paint-all}
 use Rattle.sheets.proofs.Exchange.{exchanged}
 use Rattle.sheets.proofs.Holding.{Lent, Holds, holds-itself, held-words, both-pass}
@@ -123,6 +123,60 @@ gather-replies s [] sheet lent = refl
 gather-replies s (call ∷ calls) sheet lent =
     ap₂ _∷_ (reply-alone s (lengths sheet) call (both-pass s sheet lent))
     (gather-replies s calls (gatherAfter s call sheet) (gather-holds s call sheet (effectAt sheet) (holds-itself s sheet lent) .lent))
+
+-- so in lists whose calls for different strips have changed places each call has the same reply: call by call for each strip, and wherever a
+-- call stands in the one list and in the other, also one that names no strip
+own-replies : (k : ℕ) (calls : List Call) → repliesFor k calls (map replyAlone calls) ≡ map replyAlone (ofStrip k calls)
+unfolding repliesFor ofStrip
+own-replies k [] = refl
+own-replies k (call ∷ calls) = by-strip (eqb (call .label .strip) k) (own-replies k calls)
+  where
+    by-strip : (t : Bool) → repliesFor k calls (map replyAlone calls) ≡ map replyAlone (ofStrip k calls)
+        → cond t (replyAlone call ∷ repliesFor k calls (map replyAlone calls)) (repliesFor k calls (map replyAlone calls))
+        ≡ map replyAlone (cond t (call ∷ ofStrip k calls) (ofStrip k calls))
+    by-strip true rest = ap (λ (rs : List Reply). replyAlone call ∷ rs) rest
+    by-strip false rest = rest
+
+module _ (s : Shape) (xs ys : List Call) (same : SameForStrips xs ys) where
+  same-replies : (k : ℕ) → k ≤ 31 → repliesFor k xs (map replyAlone xs) ≡ repliesFor k ys (map replyAlone ys)
+  same-replies k small = own-replies k xs ∙ ap (map replyAlone) (same k small) ∙ sym (own-replies k ys)
+
+  pub exchange-paint-replies : (k : ℕ) → k ≤ 31 → (panel : List ℕ) → badPanel s (length panel ∷ []) ≡ false
+      → repliesFor k xs (paintReplies s xs panel) ≡ repliesFor k ys (paintReplies s ys panel)
+  exchange-paint-replies k small panel room =
+      ap (repliesFor k xs) (paint-replies s xs panel room)
+      ∙ same-replies k small
+      ∙ sym (ap (repliesFor k ys) (paint-replies s ys panel room))
+
+  pub exchange-gather-replies : (k : ℕ) → k ≤ 31 → (a b : Sheet) → Lent s a → Lent s b
+      → repliesFor k xs (gatherReplies s xs a) ≡ repliesFor k ys (gatherReplies s ys b)
+  exchange-gather-replies k small a b la lb =
+      ap (repliesFor k xs) (gather-replies s xs a la)
+      ∙ same-replies k small
+      ∙ sym (ap (repliesFor k ys) (gather-replies s ys b lb))
+
+-- the n-th of some replies to some calls is the n-th call's own
+nth-reply : (calls : List Call) (n : ℕ) (call : Call) (other : Call) (none : Reply) → n < length calls → getD calls n other ≡ call
+    → getD (map replyAlone calls) n none ≡ replyAlone call
+nth-reply [] n call other none less at = absurd (omega arith)
+nth-reply (first ∷ calls) zero call other none less at = ap replyAlone at
+nth-reply (first ∷ calls) (suc n) call other none less at = nth-reply calls n call other none (omega arith) at
+
+module _ (s : Shape) (xs ys : List Call) (n m : ℕ) (call other : Call) (none : Reply) where
+  pub same-call-painted : n < length xs → m < length ys → getD xs n other ≡ call → getD ys m other ≡ call
+      → (panel : List ℕ) → badPanel s (length panel ∷ []) ≡ false
+      → getD (paintReplies s xs panel) n none ≡ getD (paintReplies s ys panel) m none
+  same-call-painted hx hy ex ey panel room =
+      ap (λ (rs : List Reply). getD rs n none) (paint-replies s xs panel room)
+      ∙ nth-reply xs n call other none hx ex
+      ∙ sym (ap (λ (rs : List Reply). getD rs m none) (paint-replies s ys panel room) ∙ nth-reply ys m call other none hy ey)
+
+  pub same-call-gathered : n < length xs → m < length ys → getD xs n other ≡ call → getD ys m other ≡ call
+      → (a b : Sheet) → Lent s a → Lent s b → getD (gatherReplies s xs a) n none ≡ getD (gatherReplies s ys b) m none
+  same-call-gathered hx hy ex ey a b la lb =
+      ap (λ (rs : List Reply). getD rs n none) (gather-replies s xs a la)
+      ∙ nth-reply xs n call other none hx ex
+      ∙ sym (ap (λ (rs : List Reply). getD rs m none) (gather-replies s ys b lb) ∙ nth-reply ys m call other none hy ey)
 
 -- ---- 4. "two sheets are equal exactly when they treat every panel alike"
 

@@ -1,5 +1,7 @@
 pub mod Compute
 pub mod Cases
+pub mod Tables
+pub mod Fonts
 pub mod Done
 pub mod Gathering
 pub mod Effects

@@ -31,4 +31,4 @@ pub gather-one : (κs : Lfts 4) (a : Dens κs gather.Kinds.ps) (r o : resT gathe
     (e e′ : AtExit (endedOf 4 gather.Kinds.ps gather.Kinds.r) κs)
     → gather.Reads.Post κs a r e → gather.Reads.Post κs a o e′
     → (r ≡ o) × (now (e .1 .1 .1 .1 .0) ≡ now (e′ .1 .1 .1 .1 .0)) × (now (e .1 .1 .1 .1 .1 .0) ≡ now (e′ .1 .1 .1 .1 .1 .0))
-gather-one κs a r o e e′ p q = (p .0 ∙ sym (q .0), p .1 .0 ∙ sym (q .1 .0), p .1 .1 ∙ sym (q .1 .1))
+gather-one κs a r o e e′ p q = (p .0 ∙ sym (q .0), p .1 .0 ∙ sym (q .1 .0), p .1 .1 .0 ∙ sym (q .1 .1 .0))

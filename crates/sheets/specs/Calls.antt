@@ -34,6 +34,13 @@ unfoldable pub ofStrip : ℕ → List Call → List Call
 ofStrip k [] = []
 ofStrip k (call ∷ calls) = cond (eqb (call .label .strip) k) (call ∷ ofStrip k calls) (ofStrip k calls)
 
+-- of the replies to some calls those to the calls that name strip k, in their order
+unfoldable pub repliesFor : ℕ → List Call → List Reply → List Reply
+repliesFor k [] replies = []
+repliesFor k (call ∷ calls) [] = []
+repliesFor k (call ∷ calls) (reply ∷ replies) =
+    cond (eqb (call .label .strip) k) (reply ∷ repliesFor k calls replies) (repliesFor k calls replies)
+
 -- "calls for different strips may change places": two lists with the same calls for each strip in the same order. Calls that name no
 -- strip are refused, and may stand anywhere
 abbrev pub SameForStrips : List Call → List Call → Type 0

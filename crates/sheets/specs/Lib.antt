@@ -1,3 +1,4 @@
 pub mod Sheet
 pub mod Calls
 pub mod Cases
+pub mod Fonts

@@ -11,8 +11,8 @@ ghost use Rattle.words.specs.Lent.{given, after};
 ghost use Rattle.words.specs.Word.{over};
 ghost use Rattle.words.specs.Effect.{altered};
 ghost use Rattle.paint.specs.Panel.{panelWords};
-ghost use Rattle.paint.specs.Sheet.{sheetOf, effectAt};
-ghost use Rattle.paint.specs.Label.{callOf};
+ghost use Rattle.paint.specs.Sheet.{sheetOf, lengthsOf, effectAt};
+ghost use Rattle.paint.specs.Label.{callOf, TellsCall};
 ghost use Rattle.sheets.specs.Sheet.{freshNumber, freshAfter, joinNumber, joinOnto, joinAfter};
 ghost use Rattle.sheets.specs.Sheet.{applyNumber, applyAfter, gatherReply, gatherAfter};
 
@@ -114,6 +114,7 @@ pub fn gather(
     ensures { λ r. ⌜ r ≡ gatherReply s (callOf (given font) l (given text)) (sheetOf (given keep) (given flip)) ⌝ }
     ensures keep { λ r. ⌜ after keep ≡ gatherAfter s (callOf (given font) l (given text)) (sheetOf (given keep) (given flip)) .keep ⌝ }
     ensures flip { λ r. ⌜ after flip ≡ gatherAfter s (callOf (given font) l (given text)) (sheetOf (given keep) (given flip)) .flip ⌝ }
+    ensures numbers { λ r. ⌜ TellsCall r s (lengthsOf (given keep) (given flip)) (callOf (given font) l (given text)) ⌝ }
 {
     match fonts::read(font) {
         Reading::Refused(number) => Reply::Refused(number),

@@ -2,9 +2,9 @@
 use Rattle.words.specs.Word.{bitOf, wordTo, wordOf, wordsOf, bytesOf, oddBytes, table, over}
 use Rattle.words.specs.Search.{someBelow, firstBelow, lastBelow, sumBelow, mostBelow}
 use Rattle.words.specs.Refusal.{firstOf, orElse, notWithin}
-use Rattle.words.specs.Place.{outside, placeOf}
+use Rattle.words.specs.Place.{outside, placeOf, signedWord, dotAt}
 use Rattle.words.specs.Effect.{modeOf, altered}
 
 unfoldable pub computing : Unit {0}
-unfolding bitOf wordTo wordOf wordsOf bytesOf oddBytes table over someBelow firstBelow lastBelow sumBelow mostBelow firstOf orElse notWithin outside placeOf modeOf altered
+unfolding bitOf wordTo wordOf wordsOf bytesOf oddBytes table over someBelow firstBelow lastBelow sumBelow mostBelow firstOf orElse notWithin outside placeOf signedWord dotAt modeOf altered
 computing = tt

@@ -5,6 +5,7 @@ pub mod BitLaws
 pub mod Lists
 pub mod Bits
 pub mod Signs
+pub mod Whole
 pub mod Effects
 pub mod DotByDot
 pub mod Tables

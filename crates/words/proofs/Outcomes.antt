@@ -17,6 +17,7 @@ use Rattle.words.proofs.place_of as place-of
 use Rattle.words.proofs.word_at as word-at
 use Rattle.words.proofs.part as part
 use Rattle.words.proofs.word_in as word-in
+use Rattle.words.proofs.odd_bytes as odd-bytes
 use Rattle.words.proofs.part_in as part-in
 use Rattle.words.proofs.from_bytes as from-bytes
 use Rattle.words.proofs.to_bytes as to-bytes
@@ -98,6 +99,9 @@ part-one κs a r o e e′ p q = p ∙ sym q
 
 pub word-in-one : OneReply 1 word-in.Kinds.ps word-in.Kinds.r word-in.Reads.Post
 word-in-one κs a r o e e′ p q = p ∙ sym q
+
+pub odd-bytes-one : OneReply 1 odd-bytes.Kinds.ps odd-bytes.Kinds.r odd-bytes.Reads.Post
+odd-bytes-one κs a r o e e′ p q = p ∙ sym q
 
 pub part-in-one : (κs : Lfts 1) (a : Dens κs part-in.Kinds.ps) (r o : resT part-in.Kinds.r κs .Denot) (e e′ : AtExit (endedOf 1 part-in.Kinds.ps part-in.Kinds.r) κs)
     → part-in.Reads.Post κs a r e → part-in.Reads.Post κs a o e′ → now r ≡ now o

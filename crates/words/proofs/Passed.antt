@@ -15,6 +15,11 @@ pub both : (s t : Bool) → (s && t) ≡ true → (s ≡ true) × (t ≡ true)
 both true t e = (refl, e)
 both false t e = absurd (false≢true e)
 
+-- a dot that is there only where a test holds
+pub choice-one : (t : Bool) (a : ℕ) → cond t a 0 ≡ 1 → (t ≡ true) × (a ≡ 1)
+choice-one true a e = (refl, e)
+choice-one false a e = absurd (omega arith)
+
 -- no number was given, so the test did not hold
 pub passed : (t : Bool) (number rest : ℕ) → 0 < number → cond t number rest ≡ 0 → (t ≡ false) × (rest ≡ 0)
 passed true number rest h e = absurd (omega arith)

@@ -19,6 +19,16 @@ placeOf (negsuc n) = cond (ltb 1023 n) 0 (2047 - n)
 abbrev pub numberAt : ℕ → ℤ
 numberAt place = subℕ place 2048
 
+-- the number that a word stands for in two's complement
+unfoldable pub signedWord : ℕ → ℤ
+signedWord w = cond (ltb w 32768) (pos w) (subℕ w 65536)
+
 -- the place of a word in two's complement, for a word from -2048 to 2047
 abbrev pub placeOfWord : ℕ → ℕ
 placeOfWord w = (w + 2048) % 65536
+
+-- the dot of a picture in a row and column that have a sign; none lies before its first row or column
+unfoldable pub dotAt : (ℕ → ℕ → ℕ) → ℤ → ℤ → ℕ
+dotAt dot (pos i) (pos j) = dot i j
+dotAt dot (pos i) (negsuc j) = 0
+dotAt dot (negsuc i) j = 0

@@ -3,7 +3,7 @@
 ghost use mathlib.Core.Path.{_≡_};
 ghost use Prim.Native.Nat.{_+_, _-_, _*_, _/_, _%_, min};
 ghost use lib.ListN.{length, take, drop};
-ghost use Rattle.words.specs.Word.{word, bitOf, putBit, wordsOf, bytesOf, over};
+ghost use Rattle.words.specs.Word.{word, bitOf, putBit, wordsOf, bytesOf, oddBytes, over};
 ghost use Rattle.words.specs.Refusal.{notWithin};
 ghost use Rattle.words.specs.Place.{outside, placeOf, placeOfWord};
 ghost use Rattle.words.specs.Effect.{effect, identity, paintOf, eraseOf, invertOf, effectOf, modeOf, joinOf, applyTo};
@@ -228,6 +228,13 @@ pub fn word_in(bytes: &[u8], i: usize) -> u16
         return pair(bytes[2 * i], bytes[2 * i + 1]);
     }
     0
+}
+
+// Refused by 14 where words are read from bytes: a last byte without a partner.
+pub fn odd_bytes(bytes: &[u8]) -> bool
+    ensures { λ r. ⌜ r ≡ oddBytes (now (bytes .entry)) ⌝ }
+{
+    bytes.len() % 2 == 1
 }
 
 // The bytes that spell the count words from word `from` on, as a part of the bytes; fewer where these end before.

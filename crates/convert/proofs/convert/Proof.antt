@@ -17,6 +17,7 @@ use Rattle.convert.specs.Conversion.{cuNumber}
 use Rattle.convert.proofs.Accepting.{rows-small}
 use Rattle.convert.proofs.Laid.{laid, words-by}
 use Rattle.convert.proofs.Converting.{source-number, file-accepted, places-read, drawing-read, conversion-refused, conversion-done}
+use Rattle.convert.proofs.Answers.{answered}
 use Rattle.convert.proofs.convert.Statement.{statement}
 use Rattle.convert.proofs.convert.Tie as tie
 
@@ -30,7 +31,8 @@ returns c =
     let a = source .before .before .before .args in
     let ws = now (a .cu) in
     let number = ap (λ (s : Source). s .number) (source .of .ensures) ∙ source-number ws in
-    conversion-refused ws (now (a .out)) (source .of .result .number) (stage-stops _ _ _ number (c .if1 .taken)) (c .if1 .taken)
+    let refused = conversion-refused ws (now (a .out)) (source .of .result .number) (stage-stops _ _ _ number (c .if1 .taken)) (c .if1 .taken) in
+    answered ws (now (a .out)) _ _ refused
 
 slice-aggregate-of : tie.Need-slice-aggregate-of
 slice-aggregate-of c = search needs
@@ -56,7 +58,8 @@ returns-2 c =
     let none = accepted .if1 .left in
     let number = ap (λ (s : Source). s .number) read ∙ source-number ws in
     let drawn = c .before .drawing-number .ensures ∙ ap (λ (d : Drawing). drawingNumber d (length out)) (drawing-read ws (source .of .result) read none) in
-    conversion-refused ws out (c .before .drawing-number .result) (stage-goes-on _ _ _ _ number none drawn) (c .if2 .taken)
+    let refused = conversion-refused ws out (c .before .drawing-number .result) (stage-goes-on _ _ _ _ number none drawn) (c .if2 .taken) in
+    answered ws out _ _ refused
 
 -- the file and its drawing are accepted
 module _ (c : tie.Else2) where
@@ -120,10 +123,9 @@ returns-3 c =
     let ws = cu-words told in
     let out = now (begun told .args .out) in
     let done = conversion-done ws out (accepted told) in
-    let words = c .file-words .ensures ∙ words-by _ (measured told .of2 .result) (measured told .of2 .ensures) ∙ ap fileWords (drawing-is told) in (
-      ap Written words ∙ done .0,
-      c .before .before .before .write .ensures ∙ ap (λ (d : Drawing). fileOf d ++ drop (fileWords d) out) (drawing-is told) ∙ done .1,
-    )
+    let words = c .file-words .ensures ∙ words-by _ (measured told .of2 .result) (measured told .of2 .ensures) ∙ ap fileWords (drawing-is told) in
+    let written = c .before .before .before .write .ensures ∙ ap (λ (d : Drawing). fileOf d ++ drop (fileWords d) out) (drawing-is told) in
+    answered ws out _ _ (ap Written words ∙ done .0, written ∙ done .1)
 
 pub convert-spec : {M : Type 1} → statement M
 convert-spec =

@@ -40,7 +40,7 @@ returns c =
     let fits : length (now (a .bytes)) / 2 ≤ length (read .last .1 .0) = omega arith in
     let words = spelt (read .result) (now (a .bytes)) (replicate 32768 0) (read .last .1 .0) fits (read .ensures .0) (read .ensures .1) in (
       b .convert .ensures .0 ∙ ap (λ (ws : List ℕ). conversionOf ws (length (now (a .out)))) words,
-      b .convert .ensures .1 ∙ ap (λ (ws : List ℕ). outputAfter ws (now (a .out))) words,
+      b .convert .ensures .1 .0 ∙ ap (λ (ws : List ℕ). outputAfter ws (now (a .out))) words,
     )
 
 pub converted-spec : {M : Type 1} → statement M

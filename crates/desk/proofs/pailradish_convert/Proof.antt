@@ -18,7 +18,7 @@ same-length c = search needs
 returns : tie.Need-returns
 returns c =
     let converted = c .before .before .before .convert .ensures in
-    (c .written-of .ensures ∙ ap writtenOf (converted .0), converted .1)
+    (c .written-of .ensures ∙ ap writtenOf (converted .0), converted .1 .0)
 
 pub pailradish-convert-spec : {M : Type 1} → statement M
 pailradish-convert-spec =

@@ -22,7 +22,7 @@ returns : tie.Need-returns
 returns c =
     let done = c .answer-of .ensures in
     let gathered = c .before .before .before .before .before .gather .ensures in
-    (done ∙ ap answerOf (gathered .0), gathered .1)
+    (done ∙ ap answerOf (gathered .0), (gathered .1 .0, gathered .1 .1 .0))
 
 pub pailradish-gather-spec : {M : Type 1} → statement M
 pailradish-gather-spec =

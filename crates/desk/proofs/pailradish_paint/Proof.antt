@@ -18,7 +18,7 @@ same-length c = search needs
 returns : tie.Need-returns
 returns c =
     let painted = c .before .before .before .paint .ensures in
-    (c .answer-of .ensures ∙ ap answerOf (painted .0), painted .1)
+    (c .answer-of .ensures ∙ ap answerOf (painted .0), painted .1 .0)
 
 pub pailradish-paint-spec : {M : Type 1} → statement M
 pailradish-paint-spec = tie.close (tie.spec paint-requires answer-of-requires same-length returns)

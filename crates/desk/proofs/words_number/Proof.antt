@@ -7,8 +7,8 @@ use borrow.Author.Needs.{needs}
 use Rattle.desk.proofs.words_number.Statement.{statement}
 use Rattle.desk.proofs.words_number.Tie as tie
 
-odd-requires : tie.Need-odd-requires
-odd-requires c κs = search needs
+odd-bytes-requires : tie.Need-odd-bytes-requires
+odd-bytes-requires c κs = search needs
 
 returns : tie.Need-returns
 unfolding wordsNumber firstOf
@@ -23,4 +23,4 @@ unfolding wordsNumber firstOf
 returns-3 c = search chain depth 20
 
 pub words-number-spec : {M : Type 1} → statement M
-words-number-spec = tie.close (tie.spec odd-requires returns returns-2 returns-3)
+words-number-spec = tie.close (tie.spec odd-bytes-requires returns returns-2 returns-3)

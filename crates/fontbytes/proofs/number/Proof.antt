@@ -1,9 +1,7 @@
 -- `fontbytes::number` meets its contract: the number of what reading answers.
 -- Assumes nothing.
-use mathlib.Core.Path.{sym, _∙_}
-use denote.Ref.{now}
-use Rattle.words.specs.Word.{wordsOf}
-use Rattle.fonts.proofs.Readings.{read-refused, read-accepted}
+use mathlib.Core.Path.{sym, ap, _∙_}
+use Rattle.fonts.specs.Reading.{readingNumber}
 use borrow.Author.Needs.{needs}
 use Rattle.fontbytes.proofs.number.Statement.{statement}
 use Rattle.fontbytes.proofs.number.Tie as tie
@@ -20,15 +18,10 @@ enum-told c = search needs
 returns : tie.Need-returns
 returns c =
     let told = c .before in
-    let read = told .before .before in
-    let start = read .before .before in
-    read-refused (wordsOf (now (start .args .font))) _ (sym (read .read .ensures) ∙ told .number .given .1) .0
+    sym (ap readingNumber (told .number .given .1)) ∙ told .before .before .read .ensures .1
 
 returns-2 : tie.Need-returns-2
-returns-2 c =
-    let read = c .before .before in
-    let start = read .before .before in
-    sym (read-accepted (wordsOf (now (start .args .font))) _ (sym (read .read .ensures) ∙ c .enum-told .given .1) .0)
+returns-2 c = sym (ap readingNumber (c .enum-told .given .1)) ∙ c .before .before .read .ensures .1
 
 pub number-spec : {M : Type 1} → statement M
 number-spec = tie.close (tie.spec read-requires enum-known-number enum-told returns returns-2)

@@ -1,45 +1,51 @@
--- `fontbytes::read` meets its contract, by its one test.
+-- `fontbytes::read` meets its contract: 14, or what reading the words answers.
 -- Assumes nothing.
 use Prim.Native.Nat.{ℕ}
-use mathlib.Core.Path.{_≡_, ap, _∙_}
+use mathlib.Core.Path.{_≡_, sym, ap, _∙_}
+use mathlib.Core.Bool.{true, false}
 use mathlib.Core.List.{List}
 use denote.Ref.{now}
-use Rattle.words.specs.Word.{wordsOf}
-use Rattle.fonts.specs.Reading.{numberBy, fontNumber, accepted, readingOf}
-use Rattle.fonts.specs.declared.View.{View}
-use Rattle.fonts.specs.declared.Reading.the-variants.{Accepted, Refused}
-use Rattle.words.proofs.Chain.{chain-of-replies}
+use Rattle.words.specs.Word.{wordsOf, oddBytes}
+use Rattle.fonts.specs.declared.Reading.{Reading}
+use Rattle.fonts.specs.declared.Reading.the-variants.{Refused}
+use Rattle.fonts.specs.Strike.{viewOf}
+use Rattle.fonts.specs.Reading.{readingFor, readingOf, readingNumber}
+use Rattle.fonts.proofs.Readings.{reading-number}
+use Rattle.fontbytes.specs.File.{fileNumber, fileReading}
 use borrow.Author.Needs.{needs}
 use Rattle.fontbytes.proofs.read.Statement.{statement}
 use Rattle.fontbytes.proofs.read.Tie as tie
 
--- the moment: the font has its number
-abbrev words-of : tie.After-number-by → List ℕ
-words-of c = wordsOf (now (c .before .before .before .args .font))
+odd-refused : (bytes : List ℕ) → oddBytes bytes ≡ true → Refused 14 ≡ fileReading bytes
+unfolding fileNumber readingFor
+odd-refused bytes odd = rw odd
 
-number-is : (c : tie.After-number-by) → c .number-by .result ≡ fontNumber (words-of c)
-unfolding fontNumber
-number-is c = c .number-by .ensures ∙ ap (λ (v : View). numberBy v (words-of c)) (c .before .view .ensures)
+even-read : (bytes : List ℕ) → oddBytes bytes ≡ false → readingOf (wordsOf bytes) ≡ fileReading bytes
+unfolding fileNumber
+even-read bytes even = rw even
 
-view-requires : tie.Need-view-requires
-view-requires c κs = search needs
+-- the answer, and so the paper's number for it
+both : (bytes : List ℕ) (answer : Reading) → answer ≡ fileReading bytes
+    → (answer ≡ fileReading bytes) × (readingNumber answer ≡ fileNumber bytes)
+both bytes answer is = (is, ap readingNumber is ∙ reading-number (fileNumber bytes) (viewOf (wordsOf bytes)))
 
-number-by-requires : tie.Need-number-by-requires
-number-by-requires c κs = search needs
+odd-bytes-requires : tie.Need-odd-bytes-requires
+odd-bytes-requires c κs = search needs
 
 returns : tie.Need-returns
-unfolding readingOf accepted
 returns c =
-    let number = number-is (c .before) in
-    let refused = ap Refused number in
-    search chain-of-replies
+    let asked = c .before in
+    let bytes = now (asked .before .before .args .font) in
+    both bytes _ (odd-refused bytes (sym (asked .odd-bytes .ensures) ∙ c .if1 .taken))
+
+read-words-requires : tie.Need-read-words-requires
+read-words-requires c κs = search needs
 
 returns-2 : tie.Need-returns-2
-unfolding readingOf accepted
 returns-2 c =
-    let number = number-is (c .before) in
-    let read = ap Accepted (c .before .before .view .ensures) in
-    search chain-of-replies
+    let asked = c .before .before in
+    let bytes = now (asked .before .before .args .font) in
+    both bytes _ (c .read-words .ensures ∙ even-read bytes (sym (asked .odd-bytes .ensures) ∙ c .before .if1 .left))
 
 pub read-spec : {M : Type 1} → statement M
-read-spec = tie.close (tie.spec view-requires number-by-requires returns returns-2)
+read-spec = tie.close (tie.spec odd-bytes-requires returns read-words-requires returns-2)

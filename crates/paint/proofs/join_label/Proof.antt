@@ -21,6 +21,7 @@ use Rattle.paint.proofs.Accepted.{accepted-label, accepted-stroke}
 use Rattle.paint.proofs.Along.{pen-starts}
 use Rattle.paint.proofs.Labels.{sheet-drawn}
 use Rattle.paint.proofs.Replies.{replies-refused, replies-done, sheet-stays, sheet-joined, shorter-with}
+use Rattle.paint.proofs.Telling.{tells}
 use borrow.Author.Needs.{needs}
 use Rattle.paint.proofs.join_label.Statement.{statement}
 use Rattle.paint.proofs.join_label.Tie as tie
@@ -99,10 +100,9 @@ returns : tie.Need-returns
 unfolding replyWith lengths
 returns c =
     let n = c .before in
-    let same = sheet-stays (face n) (s n) (l n) (text n) _ (sheet n) (number-is n) (c .if1 .taken) in (
-      replies-refused _ _ _ (number-is n) (c .if1 .taken),
-      (ap (λ (t : Sheet). t .keep) same, ap (λ (t : Sheet). t .flip) same),
-    )
+    let same = sheet-stays (face n) (s n) (l n) (text n) _ (sheet n) (number-is n) (c .if1 .taken) in
+    let reply = replies-refused _ _ _ (number-is n) (c .if1 .taken) in
+    (reply, (ap (λ (t : Sheet). t .keep) same, (ap (λ (t : Sheet). t .flip) same, tells _ _ _ reply)))
 
 of-requires : tie.Need-of-requires
 of-requires c κs = search needs
@@ -144,10 +144,9 @@ returns-2 c =
     ∙ ap₂ (λ (k : Stroke) (p : Pen). onPanel (labelEffect (face n) k p (text n)) k (flip n)) (stroke begun) start in
     let both =
     sheet-drawn (s n) (effectWith (face n) (s n) (l n) (text n)) (sheet n) _ _ kept flipped
-    ∙ sheet-joined (face n) (s n) (l n) (text n) (sheet n) number in (
-      replies-done (c .done .result) _ _ number (c .done .ensures ∙ ap (λ (p : Pen). Done (finishOf p)) last),
-      (ap (λ (t : Sheet). t .keep) both, ap (λ (t : Sheet). t .flip) both),
-    )
+    ∙ sheet-joined (face n) (s n) (l n) (text n) (sheet n) number in
+    let reply = replies-done (c .done .result) _ _ number (c .done .ensures ∙ ap (λ (p : Pen). Done (finishOf p)) last) in
+    (reply, (ap (λ (t : Sheet). t .keep) both, (ap (λ (t : Sheet). t .flip) both, tells _ _ _ reply)))
 
 pub join-label-spec : {M : Type 1} → statement M
 join-label-spec =

@@ -17,6 +17,7 @@ use Rattle.paint.specs.Label.{numberWith, lastPen, finishOf, replyWith, 
 use Rattle.paint.proofs.Accepted.{accepted-label, accepted-stroke}
 use Rattle.paint.proofs.Along.{pen-starts}
 use Rattle.paint.proofs.Replies.{replies-refused, replies-done, panel-stays, panel-painted}
+use Rattle.paint.proofs.Telling.{tells}
 use borrow.Author.Needs.{needs}
 use Rattle.paint.proofs.paint_label.Statement.{statement}
 use Rattle.paint.proofs.paint_label.Tie as tie
@@ -64,7 +65,8 @@ returns c =
     let n = c .before in
     let number-is = n .number-with .ensures in
     let some = c .if1 .taken in
-    (replies-refused _ _ _ number-is some, panel-stays (face n) (s n) (l n) (text n) _ (panel n) number-is some)
+    let reply = replies-refused _ _ _ number-is some in
+    (reply, (panel-stays (face n) (s n) (l n) (text n) _ (panel n) number-is some, tells _ _ _ reply))
 
 of-requires : tie.Need-of-requires
 of-requires c κs = search needs
@@ -97,10 +99,9 @@ returns-2 c =
     let last = drew .paint-text .ensures .0 ∙ ap (λ (p : Pen). penAlong (stepsOf (face n)) p (text n)) start in
     let marks =
     drew .paint-text .ensures .1 .1
-    ∙ ap₂ (λ (k : Stroke) (p : Pen). onPanel (labelEffect (face n) k p (text n)) k (panel n)) (stroke begun) start in (
-      replies-done (c .done .result) _ _ (number begun) (c .done .ensures ∙ ap (λ (p : Pen). Done (finishOf p)) last),
-      panel-painted (face n) (s n) (l n) (text n) _ (panel n) (number begun) marks,
-    )
+    ∙ ap₂ (λ (k : Stroke) (p : Pen). onPanel (labelEffect (face n) k p (text n)) k (panel n)) (stroke begun) start in
+    let reply = replies-done (c .done .result) _ _ (number begun) (c .done .ensures ∙ ap (λ (p : Pen). Done (finishOf p)) last) in
+    (reply, (panel-painted (face n) (s n) (l n) (text n) _ (panel n) (number begun) marks, tells _ _ _ reply))
 
 pub paint-label-spec : {M : Type 1} → statement M
 paint-label-spec =

@@ -1,4 +1,4 @@
--- `preview::paint_line` paints the label of a line, and nothing for any other.
+-- `preview::painting::paint_line` paints the label of a line, and nothing for any other.
 use Prim.Native.Nat.{ℕ}
 use mathlib.Core.Path.{sym, _∙_}
 use mathlib.Core.List.{List}
@@ -6,8 +6,8 @@ use denote.Ref.{now}
 use Rattle.paint.specs.declared.Shape.{Shape}
 use Rattle.preview.proofs.Lines.{passed-line, other-line, label-line}
 use borrow.Author.Needs.{needs}
-use Rattle.preview.proofs.paint_line.Statement.{statement}
-use Rattle.preview.proofs.paint_line.Tie as tie
+use Rattle.preview.proofs.painting.paint_line.Statement.{statement}
+use Rattle.preview.proofs.painting.paint_line.Tie as tie
 
 -- the call, where the line has been read
 module _ (read : tie.After-line-of) where
@@ -79,7 +79,7 @@ returns-3 c =
     label-line (font read) (line read) (panel read) (s read) (known .read .given .0 .0) (now (text .text-of .result)) _
     (sym (known .read .given .1) ∙ read .line-of .ensures)
     (text .text-of .ensures)
-    (paint .paint .ensures .1)
+    (paint .paint .ensures .1 .0)
 
 pub paint-line-spec : {M : Type 1} → statement M
 paint-line-spec =
