@@ -57,8 +57,15 @@ module _ (d : Drawing) (c : ℕ) (x y : ℤ) where
   abbrev column : ℕ
   column = up x + 2048 - (down x + place)
 
+  -- neither above the picture nor left of it, neither below it nor right of it
+  abbrev under : Bool
+  under = leb (1 + up y) (d .ascent + down y)
+
+  abbrev beyond : Bool
+  beyond = leb (down x + place) (up x + 2048)
+
   abbrev shows : Bool
-  shows = leb (1 + up y) (d .ascent + down y) && leb (down x + place) (up x + 2048) && ltb row (fbbdy d) && ltb column (d .columns c)
+  shows = under && beyond && ltb row (fbbdy d) && ltb column (d .columns c)
 
   -- x and y from the left column and the top row of a picture whose place and ascent are these
   row-from : (n : ℕ) → n ≡ d .ascent → up (pos n -ℤ pos 1 -ℤ y) + (1 + up y) ≡ down (pos n -ℤ pos 1 -ℤ y) + (d .ascent + down y)
@@ -75,18 +82,18 @@ module _ (d : Drawing) (c : ℕ) (x y : ℤ) where
       let down-is = row-from (face .glyph c .ascent) (ap (λ (g : Glyph). g .ascent) glyph) in
       let across-is = column-from (face .glyph c .place) (ap (λ (g : Glyph). g .place) glyph) in
       dot-at (face .dot (face .glyph c)) _ _ (d .ascent + down y) (1 + up y) (up x + 2048) (down x + place) down-is across-is
-      ∙ ap (λ (n : ℕ). cond (leb (1 + up y) (d .ascent + down y) && leb (down x + place) (up x + 2048)) n 0) (written-dot d s row c column h there)
-      ∙ one-window (leb (1 + up y) (d .ascent + down y)) (leb (down x + place) (up x + 2048)) (ltb row (fbbdy d)) (ltb column (d .columns c)) _
+      ∙ ap (λ (n : ℕ). cond (under && beyond) n 0) (written-dot d s row c column h there)
+      ∙ one-window under beyond (ltb row (fbbdy d)) (ltb column (d .columns c)) _
 
   shows-within : shows ≡ true
       → ((1 + up y ≤ d .ascent + down y) × (down x + place ≤ up x + 2048)) × ((row < fbbdy d) × (column < d .columns c))
   shows-within e =
-      let tests = all-hold (leb (1 + up y) (d .ascent + down y)) (leb (down x + place) (up x + 2048)) (ltb row (fbbdy d)) (ltb column (d .columns c)) e in
+      let tests = all-hold under beyond (ltb row (fbbdy d)) (ltb column (d .columns c)) e in
       ((leb-true _ _ (tests .0 .0), leb-true _ _ (tests .0 .1)), (ltb-true _ _ (tests .1 .0), ltb-true _ _ (tests .1 .1)))
 
   within-shows : 1 + up y ≤ d .ascent + down y → down x + place ≤ up x + 2048 → row < fbbdy d → column < d .columns c → shows ≡ true
   within-shows above left below right =
-      all-true (leb (1 + up y) (d .ascent + down y)) (leb (down x + place) (up x + 2048)) (ltb row (fbbdy d)) (ltb column (d .columns c))
+      all-true under beyond (ltb row (fbbdy d)) (ltb column (d .columns c))
       (le-leb _ _ above) (le-leb _ _ left) (lt-ltb _ _ below) (lt-ltb _ _ right)
 
 -- ---- and that of a CU file
@@ -175,4 +182,7 @@ module _ (ws : List ℕ) (c : ℕ) (x y : ℤ) where
         by-dots false none =
             same-window shown draws picture _ (raster-bit ws p i j)
             (λ e. let inside = shows-within (drawingOf ws) c x y e in let across = drawn-empty ws c h none in absurd (omega arith))
-            (λ e set. let inside = draws-within e in let empty = empty-dot ws p none i j (inside .1 .0) (inside .1 .1) in absurd (omega arith))
+            (λ e set.
+            let inside = draws-within e in
+            let empty = empty-dot ws p none i j (inside .1 .0) (inside .1 .1) in
+            absurd (omega arith))

@@ -228,8 +228,8 @@ everyCall rowwords rows width n number =
     ∷ (applying shape n n n, number)
     ∷ []
 
--- "8: R not 1..128, H not 1..256, W not 1..64, 32W > 16R, or a lent panel or sheet slice under R × H words". Where R is under 2, 32W is over
--- 16R for every W from 1 on, so 2 is the least R that is accepted; and where W is over 64, R would have to be over 128.
+-- "8: R not 1..128, H not 1..256, W not 1..64, 32W > 16R, or a lent panel or sheet slice under R × H words". Where R is under 2, 32W is
+-- over 16R for every W from 1 on, so 2 is the least R that is accepted; and where W is over 64, R would have to be over 128.
 unfoldable pub shapeLimits : List Row
 shapeLimits =
     everyCall 0 1 1 2 8

@@ -1,5 +1,5 @@
--- "One row of a strike may be asked for": an accepted font and a row below its height give exactly raster words, those of the file from that
--- row on, and never the empty part; all else gives the empty part.
+-- "One row of a strike may be asked for": an accepted font and a row below its height give exactly raster words, those of the file from
+-- that row on, and never the empty part; all else gives the empty part.
 use Prim.Native.Nat.{ℕ, _+_, _-_, _*_, _<_, _≤_}
 use mathlib.Core.Path.{_≡_, refl, sym, ap, _∙_}
 use mathlib.Core.Bool.{Bool, true, false, cond, _&&_}

@@ -203,8 +203,8 @@ module _ (s : Shape) (call : Call) (panel : List ℕ) (words : AllWords panel) (
       ∙ ap (λ (d : ℕ). bitOf d (column % 16)) (from-zero (callEffect s call) panel (panelWords s) i here (good .long))
       ∙ label-bit (faceOf (call .font)) (face-bit (call .font)) (strokeOf s (call .label)) row column across
       (call .text) (penAt (call .label .x)) (word panel i) (words i)
-      ∙ by-the-rule (faceOf (call .font)) s (call .label) (own .baseline) row column (call .text) (penAt (call .label .x)) (call .label .x) _
-      (sym (place-number (call .label .x) (own .place)))
+      ∙ by-the-rule (faceOf (call .font)) s (call .label) (own .baseline) row column
+      (call .text) (penAt (call .label .x)) (call .label .x) _ (sym (place-number (call .label .x) (own .place)))
 
   -- and no word past the panel differs
   pub past-panel : (i : ℕ) → panelWords s ≤ i → word (paintAfter s call panel) i ≡ word panel i
@@ -250,7 +250,8 @@ module _ (s : Shape) (call : Call) (row column dot : ℕ) where
   unfolding dotAfter
   others-stay none = stays (modeOf (call .label .mode)) landed-by (charactersOf call) dot (none-land (charactersOf call) none)
 
-  beside-all : inStrip (stripOf s (call .label .strip)) column ≡ 0 → (chs : List Character) → Each (λ (ch : Character). landed-by ch ≡ 0) chs
+  beside-all : inStrip (stripOf s (call .label .strip)) column ≡ 0 → (chs : List Character)
+      → Each (λ (ch : Character). landed-by ch ≡ 0) chs
   unfolding Each
   beside-all out [] = tt
   beside-all out (ch ∷ chs) = (landing-beside dots s (call .label) ch row column out, beside-all out chs)

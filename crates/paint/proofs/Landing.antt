@@ -10,7 +10,8 @@ use lib.IntN.{ℤ, pos, _+ℤ_, _-ℤ_}
 use borrow.Author.Tests.{le-leb, lt-ltb}
 use Rattle.words.specs.Place.{outside, placeOf, numberAt, dotAt}
 use Rattle.words.proofs.BitLaws.{on-digit}
-use Rattle.words.proofs.Whole.{up, down, same-number, plain-number, pos-is, sum-is, less-is, place-is, number-at, dot-at, dot-there, dot-hit, at-bit}
+use Rattle.words.proofs.Whole.{up, down, same-number, plain-number, pos-is, sum-is, less-is, place-is, number-at}
+use Rattle.words.proofs.Whole.{dot-at, dot-there, dot-hit, at-bit}
 use Rattle.fonts.specs.declared.Glyph.{Glyph}
 use Rattle.paint.specs.declared.Shape.{Shape}
 use Rattle.paint.specs.declared.Label.{Label}
@@ -56,8 +57,8 @@ module _ (dot : Glyph → ℕ → ℕ → ℕ) (s : Shape) (l : Label) (ch : Cha
   pub landed : landing dot s l ch row column ≡ 1 → Lands dot s l ch row column
   unfolding landing
   landed e =
-      let factors =
-      product-one (dotAt (dot g) picture-row picture-column) (inStrip (stripOf s (l .strip)) column) (in-strip-bit (stripOf s (l .strip)) column) e in
+      let strip = stripOf s (l .strip) in
+      let factors = product-one (dotAt (dot g) picture-row picture-column) (inStrip strip column) (in-strip-bit strip column) e in
       let hit = dot-hit (dot g) picture-row picture-column (factors .0) in
       let inside = within-strip (stripOf s (l .strip)) column (factors .1) in
       let r = up picture-row in

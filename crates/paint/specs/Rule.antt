@@ -1,5 +1,5 @@
--- The paper's rule of painting, dot by dot, in whole numbers with a sign: what demand 2 speaks of. It knows characters, their pictures, rows
--- and columns, and neither masks nor words.
+-- The paper's rule of painting, dot by dot, in whole numbers with a sign: what demand 2 speaks of. It knows characters, their pictures,
+-- rows and columns, and neither masks nor words.
 use Prim.Native.Nat.{ℕ, _+_, _-_, _*_, _/_, _%_, _≤_, _<_}
 use mathlib.Core.Path.{_≡_}
 use mathlib.Core.Bool.{cond}
@@ -85,7 +85,8 @@ dotUnderAll mode lands (ch ∷ chs) dot = dotUnderAll mode lands chs (dotUnder m
 -- a dot of the panel after an accepted call
 unfoldable pub dotAfter : Shape → Call → ℕ → ℕ → ℕ → ℕ
 dotAfter s call row column dot =
-    dotUnderAll (modeOf (call .label .mode)) (λ ch. landing (faceOf (call .font) .dot) s (call .label) ch row column) (charactersOf call) dot
+    let lands : Character → ℕ = λ ch. landing (faceOf (call .font) .dot) s (call .label) ch row column in
+    dotUnderAll (modeOf (call .label .mode)) lands (charactersOf call) dot
 
 -- each character of a list is so
 unfoldable pub Each : (Character → Type 0) → List Character → Type 0

@@ -1,2 +1,9 @@
 -- Laws that belong to no one function.
+mod Copying
+mod Decimals
+mod Naming
+mod Outcomes
+mod Putting
+mod Runs
+mod Setting
 mod Signs

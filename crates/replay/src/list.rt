@@ -1,7 +1,11 @@
 // Reading a list: the field that is being read, byte by byte, and the line that its fields make.
 use crate::names;
 use libc::STDIN_FILENO;
-ghost use Prim.Native.Nat.{_≤_, _<_};
+ghost use mathlib.Core.Path.{_≡_};
+ghost use Prim.Native.Nat.{_<_};
+ghost use mathlib.Core.Bool.{true};
+ghost use Rattle.replay.specs.Lines.{emptyLine, withoutLine, nothingRead, allRead};
+ghost use Rattle.replay.specs.Lines.{unsignedAt, signedAt, countedOf, numberOf, signedOf};
 
 pub const INPUT: usize = 65_536;
 
@@ -143,7 +147,7 @@ impl Field {
 
 // The rest of a field, in a buffer from a place up to another.
 fn scan(buffer: &[u8], from: usize, upto: usize, begun: Field) -> Piece {
-    let last = least(upto, buffer.len());
+    let last = words::least(upto, buffer.len());
     let mut field = begun;
     let mut i = from;
     while i < last {
@@ -171,7 +175,8 @@ fn read_some(buffer: &mut [u8; INPUT]) -> usize {
     io::count(got, buffer)
 }
 
-// The next field. A proved loop has to end, and nothing says that a list does: the turns are counted down from a number that no run uses up.
+// The next field. A proved loop has to end, and nothing says that a list does: the turns are counted down from a number that no run uses
+// up.
 fn next_field(buffer: &mut [u8; INPUT], begin: usize, end: usize) -> Ended {
     let mut field = Field::empty();
     let mut from = begin;
@@ -211,21 +216,12 @@ fn numbers_before(command: u64) -> usize {
     }
 }
 
-pub fn least(a: usize, b: usize) -> usize
-    ensures { λ r. ⌜ (r ≤ a) × (r ≤ b) ⌝ }
-{
-    if a < b {
-        return a;
-    }
-    b
-}
-
 // Puts a word into the list so often, from a place on, and answers where that ends. What the list has no room for is left out.
 fn fill(list: &mut [u16], from: usize, times: u64, word: u16) -> usize {
     if list.len() <= from {
         return from;
     }
-    let end = from + least(times as usize, list.len() - from);
+    let end = from + words::least(times as usize, list.len() - from);
     let mut i = from;
     while i < end {
         list[i] = word;
@@ -247,7 +243,9 @@ impl Ended {
 }
 
 impl Line {
-    fn empty() -> Line {
+    fn empty() -> Line
+        ensures { λ r. ⌜ r ≡ emptyLine ⌝ }
+    {
         Line {
             command: 0,
             fields: 0,
@@ -260,7 +258,7 @@ impl Line {
     // The line with one more field.
     fn with(mut self, field: Field, values: &mut [u16; VALUES]) -> Line {
         let k = self.fields;
-        self.fields = least(k, 999) + 1;
+        self.fields = words::least(k, 999) + 1;
         if k == 0 {
             self.command = field.name;
             return self;
@@ -276,32 +274,48 @@ impl Line {
         self
     }
 
-    // Number k behind the command, from 0, one that has no sign.
-    pub fn number(self, k: usize) -> u32 {
+    // Number k behind the command, from 0, as it is counted; zero past those that a line has.
+    fn counted(self, k: usize) -> u64
+        ensures { λ r. ⌜ r ≡ countedOf self k ⌝ }
+    {
         if 7 < k {
-            return 0;
+            return 4_294_967_296;
         }
-        let n = self.numbers[k];
-        if n < 4_294_967_296 {
-            return 0;
-        }
-        if 8_589_934_591 < n {
-            return 0;
-        }
-        (n - 4_294_967_296) as u32
+        self.numbers[k]
     }
 
-    // Number k behind the command, from 0, one that may have a sign.
-    pub fn signed(self, k: usize) -> i32 {
-        if 7 < k {
-            return 0;
-        }
-        signed(self.numbers[k])
+    // The same, for one that has no sign.
+    pub fn number(self, k: usize) -> u32
+        ensures { λ r. ⌜ r ≡ numberOf self k ⌝ }
+    {
+        unsigned(self.counted(k))
+    }
+
+    // The same, for one that may have a sign.
+    pub fn signed(self, k: usize) -> i32
+        ensures { λ r. ⌜ r ≡ signedOf self k ⌝ }
+    {
+        signed(self.counted(k))
     }
 }
 
+// A number without a sign, from one counted from 4294967296 below zero; 0 where it does not fit.
+fn unsigned(n: u64) -> u32
+    ensures { λ r. ⌜ r ≡ unsignedAt n ⌝ }
+{
+    if n < 4_294_967_296 {
+        return 0;
+    }
+    if 8_589_934_591 < n {
+        return 0;
+    }
+    (n - 4_294_967_296) as u32
+}
+
 // A number with a sign, from one counted from 4294967296 below zero; the nearest where it does not fit.
-fn signed(n: u64) -> i32 {
+fn signed(n: u64) -> i32
+    ensures { λ r. ⌜ r ≡ signedAt n ⌝ }
+{
     if n < 2_147_483_649 {
         return -2_147_483_648;
     }
@@ -315,28 +329,36 @@ fn signed(n: u64) -> i32 {
 }
 
 impl Read {
-    // Before the first line.
-    pub fn nothing() -> Read {
+    fn without_line(over: bool) -> Read
+        ensures { λ r. ⌜ r ≡ withoutLine over ⌝ }
+    {
         Read {
             line: Line::empty(),
-            over: false,
+            over,
             from: 0,
             upto: 0,
         }
     }
 
-    fn over() -> Read {
-        Read {
-            line: Line::empty(),
-            over: true,
-            from: 0,
-            upto: 0,
-        }
+    // Before the first line.
+    pub fn nothing() -> Read
+        ensures { λ r. ⌜ r ≡ nothingRead ⌝ }
+    {
+        Read::without_line(false)
+    }
+
+    // Behind the last.
+    fn over() -> Read
+        ensures { λ r. ⌜ r ≡ allRead ⌝ }
+    {
+        Read::without_line(true)
     }
 }
 
 // The line behind the one read before; turns are counted as for a field.
-pub fn next_line(before: Read, buffer: &mut [u8; INPUT], values: &mut [u16; VALUES]) -> Read {
+pub fn next_line(before: Read, buffer: &mut [u8; INPUT], values: &mut [u16; VALUES]) -> Read
+    ensures { λ r. ⌜ (r .over ≡ true → r ≡ allRead) ⌝ }
+{
     let mut line = Line::empty();
     let mut from = before.from;
     let mut upto = before.upto;

@@ -8,6 +8,7 @@ mod registers;
 mod sheet_calls;
 mod text;
 
+use libc::STDOUT_FILENO;
 use list::INPUT;
 use list::Line;
 use list::Read;
@@ -68,6 +69,11 @@ fn perform(
     State { held, at }
 }
 
+// Writes out what has been put into the text.
+fn flush(text: &[u8; TEXT], at: usize) {
+    io::write_all(STDOUT_FILENO, text::start(text, at));
+}
+
 // Performs line after line. A proved loop has to end, and nothing says that a list does: the turns are counted down from a number that no
 // run uses up.
 fn run(
@@ -90,7 +96,7 @@ fn run(
         turns -= 1;
         read = list::next_line(read, buffer, values);
         if read.over {
-            text::flush(text, state.at);
+            flush(text, state.at);
             return;
         }
         let line = read.line;

@@ -1,6 +1,8 @@
 // The names in a list, each told by a number: two digits for a character, a letter's place in the alphabet or a digit's code in ASCII.
 // So the number of a name can be read, here and by whoever prints it.
-ghost use Prim.Native.Nat.{_≤_, _<_};
+ghost use mathlib.Core.Path.{_≡_};
+ghost use Prim.Native.Nat.{_≤_};
+ghost use Rattle.replay.specs.Names.{numberOfCharacter, nameWith, keepName, flipName};
 
 // font, cu, panel, out, file
 pub const FONT: u64 = 06_15_14_20;
@@ -54,7 +56,7 @@ pub const CONVERT: u64 = 03_15_14_22_05_18_20;
 pub const WRITTEN: u64 = 23_18_09_20_20_05_14;
 
 fn letter(b: u8) -> u64
-    ensures { λ r. ⌜ r ≤ 255 ⌝ }
+    ensures { λ r. ⌜ (r ≡ numberOfCharacter b) × (r ≤ 255) ⌝ }
 {
     if b < 97 {
         return b as u64;
@@ -63,7 +65,9 @@ fn letter(b: u8) -> u64
 }
 
 // The name with one more character. A name that is too long for a number is told by its first nine.
-pub fn extended(name: u64, b: u8) -> u64 {
+pub fn extended(name: u64, b: u8) -> u64
+    ensures { λ r. ⌜ r ≡ nameWith name b ⌝ }
+{
     if 9_999_999_999_999_999 < name {
         return name;
     }
@@ -71,7 +75,9 @@ pub fn extended(name: u64, b: u8) -> u64 {
 }
 
 // The register that is a sheet's keep.
-pub fn keep_of(sheet: u32) -> u64 {
+pub fn keep_of(sheet: u32) -> u64
+    ensures { λ r. ⌜ r ≡ keepName sheet ⌝ }
+{
     if sheet == 2 {
         return KEEP2;
     }
@@ -79,19 +85,11 @@ pub fn keep_of(sheet: u32) -> u64 {
 }
 
 // The register that is a sheet's flip.
-pub fn flip_of(sheet: u32) -> u64 {
+pub fn flip_of(sheet: u32) -> u64
+    ensures { λ r. ⌜ r ≡ flipName sheet ⌝ }
+{
     if sheet == 2 {
         return FLIP2;
     }
     FLIP1
-}
-
-// The character that two digits of a name stand for.
-pub fn character(pair: u64) -> u8
-    requires { ⌜ pair < 100 ⌝ }
-{
-    if pair < 27 {
-        return pair as u8 + 96;
-    }
-    pair as u8
 }

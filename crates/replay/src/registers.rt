@@ -3,12 +3,19 @@
 // No call but `join` is lent two registers of one array. Behind the registers in `files` stand the words that the last conversion wrote.
 use crate::list::Line;
 use crate::list::VALUES;
-use crate::list::least;
 use crate::names;
 use crate::text::TEXT;
 use crate::text::put;
 use crate::text::put_list;
 use crate::text::put_name;
+ghost use mathlib.Core.Path.{_≡_};
+ghost use Prim.Native.Nat.{_%_};
+ghost use Rattle.words.specs.Lent.{given, after};
+ghost use Rattle.replay.specs.Text.{Puts, listBytes};
+ghost use Rattle.replay.specs.Answers.{widenAfter, shownBytes, registerBytes, valuesSpread, showAnswer, valuesShown};
+ghost use Rattle.replay.specs.Registers.{register, registerOf, nothingHeld, heldBy, heldWith, heldWritten, wordsOf};
+ghost use Rattle.replay.specs.Registers.{copied, copyAfter, narrowed, narrowAfter, atEntry, atExit, heldAfter, arraysAfter};
+ghost use Rattle.replay.specs.Registers.{keptAfter, filesKept, heldFromWritten, valuesFromWritten, filesFromWritten};
 
 pub const FILES: usize = 670_000;
 
@@ -50,7 +57,9 @@ pub struct Held {
 }
 
 impl Register {
-    fn new(array: Array, from: usize, room: usize, number: usize) -> Register {
+    fn new(array: Array, from: usize, room: usize, number: usize) -> Register
+        ensures { λ r. ⌜ r ≡ register array from room number ⌝ }
+    {
         Register {
             array,
             from,
@@ -59,7 +68,9 @@ impl Register {
         }
     }
 
-    fn named(name: u64) -> Register {
+    fn named(name: u64) -> Register
+        ensures { λ r. ⌜ r ≡ registerOf name ⌝ }
+    {
         match name {
             names::FONT => Register::new(Array::Files, 0, 70_000, 0),
             names::CU => Register::new(Array::Files, 70_000, 530_000, 1),
@@ -76,14 +87,18 @@ impl Register {
 }
 
 impl Held {
-    pub fn nothing() -> Held {
+    pub fn nothing() -> Held
+        ensures { λ r. ⌜ r ≡ nothingHeld ⌝ }
+    {
         Held {
             counts: [0; 9],
             written: 0,
         }
     }
 
-    fn of(self, register: Register) -> usize {
+    fn of(self, register: Register) -> usize
+        ensures { λ r. ⌜ r ≡ heldBy self register ⌝ }
+    {
         let number = register.number;
         if number < 9 {
             return self.counts[number];
@@ -91,7 +106,9 @@ impl Held {
         0
     }
 
-    fn with(mut self, register: Register, count: usize) -> Held {
+    fn with(mut self, register: Register, count: usize) -> Held
+        ensures { λ r. ⌜ r ≡ heldWith self register count ⌝ }
+    {
         let number = register.number;
         if number < 9 {
             self.counts[number] = count;
@@ -99,18 +116,26 @@ impl Held {
         self
     }
 
-    fn with_written(mut self, count: usize) -> Held {
+    fn with_written(mut self, count: usize) -> Held
+        ensures { λ r. ⌜ r ≡ heldWritten self count ⌝ }
+    {
         self.written = count;
         self
     }
 }
 
 // Copies the first `count` words to a place of another list, as far as there is room, and answers how many.
-pub fn copy(from: &[u16], count: usize, to: &mut [u16], place: usize, room: usize) -> usize {
+pub fn copy(from: &[u16], count: usize, to: &mut [u16], place: usize, room: usize) -> usize
+    ensures { λ r. ⌜ r ≡ copied (given from) count (given to) place room ⌝ }
+    ensures to { λ r. ⌜ after to ≡ copyAfter (given from) count (given to) place room ⌝ }
+{
     if to.len() < place {
         return 0;
     }
-    let end = least(least(count, from.len()), least(room, to.len() - place));
+    let end = words::least(
+        words::least(count, from.len()),
+        words::least(room, to.len() - place),
+    );
     let mut i = 0;
     while i < end {
         to[place + i] = from[i];
@@ -120,8 +145,11 @@ pub fn copy(from: &[u16], count: usize, to: &mut [u16], place: usize, room: usiz
 }
 
 // Copies the first `count` words, which stand for bytes, and answers how many.
-pub fn narrow(from: &[u16], count: usize, to: &mut [u8]) -> usize {
-    let end = least(count, least(from.len(), to.len()));
+pub fn narrow(from: &[u16], count: usize, to: &mut [u8]) -> usize
+    ensures { λ r. ⌜ r ≡ narrowed (given from) count (given to) ⌝ }
+    ensures to { λ r. ⌜ after to ≡ narrowAfter (given from) count (given to) ⌝ }
+{
+    let end = words::least(count, words::least(from.len(), to.len()));
     let mut i = 0;
     while i < end {
         to[i] = low(from[i]);
@@ -130,13 +158,18 @@ pub fn narrow(from: &[u16], count: usize, to: &mut [u8]) -> usize {
     end
 }
 
-fn low(word: u16) -> u8 {
+fn low(word: u16) -> u8
+    ensures { λ r. ⌜ r ≡ word % 256 ⌝ }
+{
     (word % 256) as u8
 }
 
 // Copies the first `count` bytes, which become words, and answers how many.
-fn widen(from: &[u8], count: usize, to: &mut [u16]) -> usize {
-    let end = least(count, least(from.len(), to.len()));
+fn widen(from: &[u8], count: usize, to: &mut [u16]) -> usize
+    ensures { λ r. ⌜ r ≡ narrowed (given from) count (given to) ⌝ }
+    ensures to { λ r. ⌜ after to ≡ widenAfter (given from) count (given to) ⌝ }
+{
+    let end = words::least(count, words::least(from.len(), to.len()));
     let mut i = 0;
     while i < end {
         to[i] = wide(from[i]);
@@ -145,7 +178,9 @@ fn widen(from: &[u8], count: usize, to: &mut [u16]) -> usize {
     end
 }
 
-fn wide(byte: u8) -> u16 {
+fn wide(byte: u8) -> u16
+    ensures { λ r. ⌜ r ≡ byte ⌝ }
+{
     byte as u16
 }
 
@@ -159,18 +194,20 @@ pub fn set(
     keeps: &mut [u16; SHEETS],
     flips: &mut [u16; SHEETS],
     bytes: &mut [u8; BYTES],
-) -> Held {
+) -> Held
+    ensures { λ r. ⌜ r ≡ heldAfter line (given values) held (atEntry files lent keeps flips bytes) ⌝ }
+    ensures lent { λ r. ⌜ atExit files lent keeps flips bytes ≡ arraysAfter line (given values) (atEntry files lent keeps flips bytes) ⌝ }
+{
     let r = Register::named(line.command);
     let array = r.array;
-    let count = match array {
-        Array::Files => copy(values, line.values, files, r.from, r.room),
-        Array::Lent => copy(values, line.values, lent, r.from, r.room),
-        Array::Keeps => copy(values, line.values, keeps, r.from, r.room),
-        Array::Flips => copy(values, line.values, flips, r.from, r.room),
-        Array::Bytes => narrow(values, line.values, bytes),
-        Array::Nowhere => 0,
-    };
-    held.with(r, count)
+    match array {
+        Array::Files => held.with(r, copy(values, line.values, files, r.from, r.room)),
+        Array::Lent => held.with(r, copy(values, line.values, lent, r.from, r.room)),
+        Array::Keeps => held.with(r, copy(values, line.values, keeps, r.from, r.room)),
+        Array::Flips => held.with(r, copy(values, line.values, flips, r.from, r.room)),
+        Array::Bytes => held.with(r, narrow(values, line.values, bytes)),
+        Array::Nowhere => held.with(r, 0),
+    }
 }
 
 // Shows the register that a line asks for. The bytes of `file` are spread over words, which stand where a line's values would.
@@ -185,23 +222,45 @@ pub fn show(
     bytes: &[u8; BYTES],
     text: &mut [u8; TEXT],
     at: usize,
-) -> usize {
+) -> usize
+    ensures { λ r. ⌜ Puts text at (showAnswer line (given values) held (atEntry files lent keeps flips bytes)) r ⌝ }
+    ensures values { λ r. ⌜ after values ≡ valuesShown line (given values) held (given bytes) ⌝ }
+{
     if line.command != names::SHOW {
         return at;
     }
     let r = Register::named(line.name);
-    let array = r.array;
     let count = held.of(r);
     let at = put_name(text, at, line.name);
-    let at = match array {
+    let at = put_register(r, count, values, files, lent, keeps, flips, bytes, text, at);
+    put(text, at, b'\n')
+}
+
+// What a register holds, of so many words.
+fn put_register(
+    r: Register,
+    count: usize,
+    values: &mut [u16; VALUES],
+    files: &[u16; FILES],
+    lent: &[u16; LENT],
+    keeps: &[u16; SHEETS],
+    flips: &[u16; SHEETS],
+    bytes: &[u8; BYTES],
+    text: &mut [u8; TEXT],
+    at: usize,
+) -> usize
+    ensures { λ x. ⌜ Puts text at (registerBytes (r .array) r count (given values) (atEntry files lent keeps flips bytes)) x ⌝ }
+    ensures values { λ x. ⌜ after values ≡ valuesSpread (r .array) count (given values) (given bytes) ⌝ }
+{
+    let array = r.array;
+    match array {
         Array::Files => put_list(text, at, words::part(files, r.from, count), 4),
         Array::Lent => put_list(text, at, words::part(lent, r.from, count), 4),
         Array::Keeps => put_list(text, at, words::part(keeps, r.from, count), 4),
         Array::Flips => put_list(text, at, words::part(flips, r.from, count), 4),
         Array::Bytes => put_bytes(text, at, bytes, count, values),
         Array::Nowhere => at,
-    };
-    put(text, at, b'\n')
+    }
 }
 
 fn put_bytes(
@@ -210,33 +269,47 @@ fn put_bytes(
     bytes: &[u8],
     count: usize,
     values: &mut [u16; VALUES],
-) -> usize {
+) -> usize
+    ensures { λ r. ⌜ Puts text at (listBytes 2 (shownBytes (given bytes) count (given values))) r ⌝ }
+    ensures values { λ r. ⌜ after values ≡ widenAfter (given bytes) count (given values) ⌝ }
+{
     let spread = widen(bytes, count, values);
     put_list(text, at, words::part(values, 0, spread), 2)
 }
 
 // The words of a register, as a part of the array that it stands in.
-pub fn held_words(array: &[u16], held: Held, name: u64) -> &[u16] {
+pub fn held_words(array: &[u16], held: Held, name: u64) -> &[u16]
+    ensures { λ r. ⌜ now r ≡ wordsOf (given array) held name ⌝ }
+{
     let r = Register::named(name);
     words::part(array, r.from, held.of(r))
 }
 
 // The same, for a call that may alter them.
-pub fn lent_words(array: &mut [u16], held: Held, name: u64) -> &mut [u16] {
+pub fn lent_words(array: &mut [u16], held: Held, name: u64) -> &mut [u16]
+    ensures { λ r. ⌜ now r ≡ wordsOf (given array) held name ⌝ }
+{
     let r = Register::named(name);
-    let from = least(r.from, array.len());
-    let upto = from + least(held.of(r), array.len() - from);
+    let from = words::least(r.from, array.len());
+    let upto = from + words::least(held.of(r), array.len() - from);
     &mut array[from..upto]
 }
 
 // Keeps the words that a conversion wrote, the first `count` of `out`, for `out` may be set before they are asked for.
-pub fn keep_written(held: Held, count: usize, lent: &[u16], files: &mut [u16]) -> Held {
+pub fn keep_written(held: Held, count: usize, lent: &[u16], files: &mut [u16]) -> Held
+    ensures { λ r. ⌜ r ≡ keptAfter held count (given lent) (given files) ⌝ }
+    ensures files { λ r. ⌜ after files ≡ filesKept held count (given lent) (given files) ⌝ }
+{
     let out = held_words(lent, held, names::OUT);
     held.with_written(copy(out, count, files, WRITTEN, MOST_WRITTEN))
 }
 
 // Makes the words kept the font. They go by way of the place of a line's values, since both stand in one array.
-pub fn font_from_written(held: Held, values: &mut [u16; VALUES], files: &mut [u16]) -> Held {
+pub fn font_from_written(held: Held, values: &mut [u16; VALUES], files: &mut [u16]) -> Held
+    ensures { λ r. ⌜ r ≡ heldFromWritten held (given values) (given files) ⌝ }
+    ensures values { λ r. ⌜ after values ≡ valuesFromWritten held (given values) (given files) ⌝ }
+    ensures files { λ r. ⌜ after files ≡ filesFromWritten held (given values) (given files) ⌝ }
+{
     let kept = words::part(files, WRITTEN, held.written);
     let count = copy(kept, MOST_WRITTEN, values, 0, MOST_WRITTEN);
     let font = Register::named(names::FONT);

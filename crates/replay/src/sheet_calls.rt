@@ -14,15 +14,27 @@ use crate::text::put;
 use crate::text::put_name;
 use crate::text::put_number;
 use paint::Reply;
+ghost use mathlib.Core.Path.{_≡_};
+ghost use Rattle.words.specs.Lent.{given, after};
+ghost use Rattle.paint.specs.Sheet.{sheetOf};
+ghost use Rattle.sheets.specs.Sheet.{gatherReply};
+ghost use Rattle.replay.specs.Text.{Puts};
+ghost use Rattle.replay.specs.Calls.{shapeOf, gatherCall};
+ghost use Rattle.replay.specs.Answers.{refusalBytes, gatherAnswer, sheetAnswer};
+ghost use Rattle.replay.specs.Answers.{joinSpread, joinRefusal, joinAnswer, joinValues};
 
 // The whole answer of a call that answers the number alone.
-fn put_refusal(text: &mut [u8; TEXT], at: usize, line: Line, number: u32) -> usize {
+fn put_refusal(text: &mut [u8; TEXT], at: usize, line: Line, number: u32) -> usize
+    ensures { λ r. ⌜ Puts text at (refusalBytes (line .command) number) r ⌝ }
+{
     let at = put_name(text, at, line.command);
     let at = put_number(text, at, number as u64);
     put(text, at, b'\n')
 }
 
-fn gather(line: Line, font: &[u16], text: &[u8], keep: &mut [u16], flip: &mut [u16]) -> Reply {
+fn gather(line: Line, font: &[u16], text: &[u8], keep: &mut [u16], flip: &mut [u16]) -> Reply
+    ensures { λ r. ⌜ r ≡ gatherReply (shapeOf line 1) (gatherCall line (given font) (given text)) (sheetOf (given keep) (given flip)) ⌝ }
+{
     sheets::gather(font, shape(line, 1), label(line, 4), text, keep, flip)
 }
 
@@ -34,7 +46,10 @@ fn join(
     held: Held,
     keeps: &mut [u16],
     flips: &mut [u16],
-) -> u32 {
+) -> u32
+    ensures { λ r. ⌜ r ≡ joinRefusal line (given values) held (given keeps) (given flips) ⌝ }
+    ensures values { λ r. ⌜ after values ≡ joinSpread (given values) held (given keeps) (given flips) ⌝ }
+{
     let keep = registers::held_words(keeps, held, names::KEEP2);
     let kept = registers::copy(keep, SLICE, values, 0, SLICE);
     let flip = registers::held_words(flips, held, names::FLIP2);
@@ -57,7 +72,10 @@ pub fn answer_join(
     keeps: &mut [u16],
     flips: &mut [u16],
     text: &mut [u8; TEXT],
-) -> usize {
+) -> usize
+    ensures { λ r. ⌜ Puts text (state .at) (joinAnswer line (given values) (state .held) (given keeps) (given flips)) r ⌝ }
+    ensures values { λ r. ⌜ after values ≡ joinValues line (given values) (state .held) (given keeps) (given flips) ⌝ }
+{
     let held = state.held;
     if line.command == names::JOIN {
         return put_refusal(text, state.at, line, join(line, values, held, keeps, flips));
@@ -74,7 +92,9 @@ pub fn answer_gather(
     keeps: &mut [u16],
     flips: &mut [u16],
     text: &mut [u8; TEXT],
-) -> usize {
+) -> usize
+    ensures { λ r. ⌜ Puts text (state .at) (gatherAnswer line (given font) (given codes) (state .held) (given keeps) (given flips)) r ⌝ }
+{
     if line.command != names::GATHER {
         return state.at;
     }
@@ -93,7 +113,9 @@ pub fn answer(
     keeps: &mut [u16],
     flips: &mut [u16],
     text: &mut [u8; TEXT],
-) -> usize {
+) -> usize
+    ensures { λ r. ⌜ Puts text (state .at) (sheetAnswer line (state .held) (given lent) (given keeps) (given flips)) r ⌝ }
+{
     let held = state.held;
     let at = state.at;
     let sheet = line.number(0);

@@ -1,13 +1,21 @@
 // The answers' text, gathered in an array and written out where that is full. Each function puts something behind the first `at` bytes and
 // answers how many there are then.
-use crate::names;
 use libc::STDOUT_FILENO;
-ghost use Prim.Native.Nat.{_≤_, _<_};
-ghost use lib.ListN.{length};
+ghost use mathlib.Core.Path.{_≡_};
+ghost use Prim.Native.Nat.{_<_};
+ghost use mathlib.Core.List.{[], _∷_, _++_};
+ghost use lib.IntN.{natAbs};
+ghost use lib.ListN.{length, take};
+ghost use Rattle.words.specs.Lent.{given, after};
+ghost use Rattle.replay.specs.Text.{waiting, withByte, Puts, characterOf, pairBytes, nameBytes, decimal};
+ghost use Rattle.replay.specs.Text.{numberBytes, negativeBytes, signedBytes, digitOf, lowBytes, valueBytes, runBytes, listBytes};
+ghost use Rattle.replay.specs.Text.{RunEnds};
 
 pub const TEXT: usize = 65_536;
 
-pub fn put(text: &mut [u8; TEXT], at: usize, b: u8) -> usize {
+pub fn put(text: &mut [u8; TEXT], at: usize, b: u8) -> usize
+    ensures { λ r. ⌜ waiting (after text) r ≡ withByte (waiting (given text) at) b ⌝ }
+{
     if at < TEXT {
         text[at] = b;
         return at + 1;
@@ -18,19 +26,18 @@ pub fn put(text: &mut [u8; TEXT], at: usize, b: u8) -> usize {
 }
 
 // The first `count` bytes; fewer where there are no more.
-pub fn start(bytes: &[u8], count: usize) -> &[u8] {
+pub fn start(bytes: &[u8], count: usize) -> &[u8]
+    ensures { λ r. ⌜ now r ≡ take count (given bytes) ⌝ }
+{
     if bytes.len() <= count {
         return bytes;
     }
     &bytes[0..count]
 }
 
-// Writes out what has been put.
-pub fn flush(text: &[u8; TEXT], at: usize) {
-    io::write_all(STDOUT_FILENO, start(text, at));
-}
-
-fn put_all(text: &mut [u8; TEXT], at: usize, bytes: &[u8]) -> usize {
+fn put_all(text: &mut [u8; TEXT], at: usize, bytes: &[u8]) -> usize
+    ensures { λ r. ⌜ Puts text at (given bytes) r ⌝ }
+{
     let mut end = at;
     let mut i = 0;
     while i < bytes.len() {
@@ -41,7 +48,9 @@ fn put_all(text: &mut [u8; TEXT], at: usize, bytes: &[u8]) -> usize {
 }
 
 // The characters of a name, from the first two digits of its number on.
-pub fn put_name(text: &mut [u8; TEXT], at: usize, name: u64) -> usize {
+pub fn put_name(text: &mut [u8; TEXT], at: usize, name: u64) -> usize
+    ensures { λ r. ⌜ Puts text at (nameBytes name) r ⌝ }
+{
     let mut end = at;
     let mut scale: u64 = 10_000_000_000_000_000;
     while 0 < scale {
@@ -51,37 +60,57 @@ pub fn put_name(text: &mut [u8; TEXT], at: usize, name: u64) -> usize {
     end
 }
 
+// The character that two digits of a name stand for.
+fn character(pair: u64) -> u8
+    requires { ⌜ pair < 100 ⌝ }
+    ensures { λ r. ⌜ r ≡ characterOf pair ⌝ }
+{
+    if pair < 27 {
+        return pair as u8 + 96;
+    }
+    pair as u8
+}
+
 // The character of two digits of a name; none for the zeros before its first.
 fn put_pair(text: &mut [u8; TEXT], at: usize, pair: u64) -> usize
     requires { ⌜ pair < 100 ⌝ }
+    ensures { λ r. ⌜ Puts text at (pairBytes pair) r ⌝ }
 {
     if pair == 0 {
         return at;
     }
-    put(text, at, names::character(pair))
+    put(text, at, character(pair))
 }
 
-fn put_digits(text: &mut [u8; TEXT], at: usize, n: u64) -> usize {
+fn put_digits(text: &mut [u8; TEXT], at: usize, n: u64) -> usize
+    ensures { λ r. ⌜ Puts text at (decimal n) r ⌝ }
+{
     let mut digits = [0u8; 20];
     let count = io::decimal(n, &mut digits);
     put_all(text, at, &digits[..count])
 }
 
 // A field that is a number.
-pub fn put_number(text: &mut [u8; TEXT], at: usize, n: u64) -> usize {
+pub fn put_number(text: &mut [u8; TEXT], at: usize, n: u64) -> usize
+    ensures { λ r. ⌜ Puts text at (numberBytes n) r ⌝ }
+{
     let at = put(text, at, b' ');
     put_digits(text, at, n)
 }
 
 // A field that is a number below zero, by how much.
-pub fn put_negative(text: &mut [u8; TEXT], at: usize, below: u64) -> usize {
+pub fn put_negative(text: &mut [u8; TEXT], at: usize, below: u64) -> usize
+    ensures { λ r. ⌜ Puts text at (negativeBytes below) r ⌝ }
+{
     let at = put(text, at, b' ');
     let at = put(text, at, b'-');
     put_digits(text, at, below)
 }
 
 // A number without its sign.
-fn size(n: i32) -> u64 {
+fn size(n: i32) -> u64
+    ensures { λ r. ⌜ r ≡ natAbs n ⌝ }
+{
     if n < 0 {
         return (0 - n as i64) as u64;
     }
@@ -89,7 +118,9 @@ fn size(n: i32) -> u64 {
 }
 
 // A field that is a number with a sign.
-pub fn put_signed(text: &mut [u8; TEXT], at: usize, n: i32) -> usize {
+pub fn put_signed(text: &mut [u8; TEXT], at: usize, n: i32) -> usize
+    ensures { λ r. ⌜ Puts text at (signedBytes n) r ⌝ }
+{
     if n < 0 {
         return put_negative(text, at, size(n));
     }
@@ -98,6 +129,7 @@ pub fn put_signed(text: &mut [u8; TEXT], at: usize, n: i32) -> usize {
 
 fn put_hexadecimal(text: &mut [u8; TEXT], at: usize, digit: u16) -> usize
     requires { ⌜ digit < 16 ⌝ }
+    ensures { λ r. ⌜ Puts text at (digitOf digit ∷ []) r ⌝ }
 {
     if digit < 10 {
         return put(text, at, 48 + digit as u8);
@@ -106,13 +138,17 @@ fn put_hexadecimal(text: &mut [u8; TEXT], at: usize, digit: u16) -> usize
 }
 
 // The last two hexadecimal digits of a word.
-fn put_low(text: &mut [u8; TEXT], at: usize, word: u16) -> usize {
+fn put_low(text: &mut [u8; TEXT], at: usize, word: u16) -> usize
+    ensures { λ r. ⌜ Puts text at (lowBytes word) r ⌝ }
+{
     let at = put_hexadecimal(text, at, word / 16 % 16);
     put_hexadecimal(text, at, word % 16)
 }
 
 // A field that is a byte where it is two digits wide, and else a word.
-pub fn put_value(text: &mut [u8; TEXT], at: usize, word: u16, width: u32) -> usize {
+pub fn put_value(text: &mut [u8; TEXT], at: usize, word: u16, width: u32) -> usize
+    ensures { λ r. ⌜ Puts text at (valueBytes width word) r ⌝ }
+{
     let at = put(text, at, b' ');
     if width == 2 {
         return put_low(text, at, word);
@@ -121,7 +157,9 @@ pub fn put_value(text: &mut [u8; TEXT], at: usize, word: u16, width: u32) -> usi
     put_low(text, at, word)
 }
 
-fn put_run(text: &mut [u8; TEXT], at: usize, word: u16, width: u32, count: u64) -> usize {
+fn put_run(text: &mut [u8; TEXT], at: usize, word: u16, width: u32, count: u64) -> usize
+    ensures { λ r. ⌜ Puts text at (runBytes width word count) r ⌝ }
+{
     let at = put_value(text, at, word, width);
     if count < 2 {
         return at;
@@ -134,6 +172,7 @@ fn put_run(text: &mut [u8; TEXT], at: usize, word: u16, width: u32, count: u64) 
 fn run_end(list: &[u16], from: usize) -> usize
     requires { ⌜ from < length (now list) ⌝ }
     ensures { λ r. ⌜ from < r ⌝ }
+    ensures run { λ r. ⌜ RunEnds (given list) from r ⌝ }
 {
     let word = list[from];
     let mut i = from + 1;
@@ -147,7 +186,9 @@ fn run_end(list: &[u16], from: usize) -> usize
 }
 
 // A list of words or bytes, each run of equal ones as one field.
-pub fn put_list(text: &mut [u8; TEXT], at: usize, list: &[u16], width: u32) -> usize {
+pub fn put_list(text: &mut [u8; TEXT], at: usize, list: &[u16], width: u32) -> usize
+    ensures { λ r. ⌜ Puts text at (listBytes width (given list)) r ⌝ }
+{
     let mut end = at;
     let mut i = 0;
     while i < list.len() {

@@ -124,8 +124,8 @@ gather-replies s (call ∷ calls) sheet lent =
     ap₂ _∷_ (reply-alone s (lengths sheet) call (both-pass s sheet lent))
     (gather-replies s calls (gatherAfter s call sheet) (gather-holds s call sheet (effectAt sheet) (holds-itself s sheet lent) .lent))
 
--- so in lists whose calls for different strips have changed places each call has the same reply: call by call for each strip, and wherever a
--- call stands in the one list and in the other, also one that names no strip
+-- so in lists whose calls for different strips have changed places each call has the same reply: call by call for each strip, and wherever
+-- a call stands in the one list and in the other, also one that names no strip
 own-replies : (k : ℕ) (calls : List Call) → repliesFor k calls (map replyAlone calls) ≡ map replyAlone (ofStrip k calls)
 unfolding repliesFor ofStrip
 own-replies k [] = refl

@@ -5,6 +5,14 @@ use Rattle.words.specs.Refusal.{firstOf, orElse, notWithin}
 use Rattle.words.specs.Place.{outside, placeOf, signedWord, dotAt}
 use Rattle.words.specs.Effect.{modeOf, altered}
 
+unfoldable pub bits : Unit {0}
+unfolding bitOf wordTo wordOf wordsOf bytesOf oddBytes table over
+bits = tt
+
+unfoldable pub searches : Unit {0}
+unfolding someBelow firstBelow lastBelow sumBelow mostBelow firstOf orElse notWithin
+searches = tt
+
 unfoldable pub computing : Unit {0}
-unfolding bitOf wordTo wordOf wordsOf bytesOf oddBytes table over someBelow firstBelow lastBelow sumBelow mostBelow firstOf orElse notWithin outside placeOf signedWord dotAt modeOf altered
+unfolding bits searches outside placeOf signedWord dotAt modeOf altered
 computing = tt

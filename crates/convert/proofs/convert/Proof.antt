@@ -31,8 +31,8 @@ returns c =
     let a = source .before .before .before .args in
     let ws = now (a .cu) in
     let number = ap (λ (s : Source). s .number) (source .of .ensures) ∙ source-number ws in
-    let refused = conversion-refused ws (now (a .out)) (source .of .result .number) (stage-stops _ _ _ number (c .if1 .taken)) (c .if1 .taken) in
-    answered ws (now (a .out)) _ _ refused
+    let number-is = stage-stops _ _ _ number (c .if1 .taken) in
+    answered ws (now (a .out)) _ _ (conversion-refused ws (now (a .out)) (source .of .result .number) number-is (c .if1 .taken))
 
 slice-aggregate-of : tie.Need-slice-aggregate-of
 slice-aggregate-of c = search needs
@@ -123,7 +123,8 @@ returns-3 c =
     let ws = cu-words told in
     let out = now (begun told .args .out) in
     let done = conversion-done ws out (accepted told) in
-    let words = c .file-words .ensures ∙ words-by _ (measured told .of2 .result) (measured told .of2 .ensures) ∙ ap fileWords (drawing-is told) in
+    let laid-out = words-by _ (measured told .of2 .result) (measured told .of2 .ensures) in
+    let words = c .file-words .ensures ∙ laid-out ∙ ap fileWords (drawing-is told) in
     let written = c .before .before .before .write .ensures ∙ ap (λ (d : Drawing). fileOf d ++ drop (fileWords d) out) (drawing-is told) in
     answered ws out _ _ (ap Written words ∙ done .0, written ∙ done .1)
 

@@ -63,7 +63,8 @@ returns-2 c =
     let text = now (a .text) in
     let accepted = read-accepted (fontNumber (font read)) (viewOf (font read)) _ in
     let what = accepted (sym (read .read .ensures .0) ∙ told .v .given .1) in
-    let reply = painted .paint-label .ensures .0 ∙ reply-read (font read) _ (what .0) (what .1) (a .s) (a .l) text (length (panel read) ∷ []) in
+    let whole = reply-read (font read) _ (what .0) (what .1) (a .s) (a .l) text (length (panel read) ∷ []) in
+    let reply = painted .paint-label .ensures .0 ∙ whole in
     let marks = painted .paint-label .ensures .1 .0 ∙ paint-read (font read) _ (what .0) (what .1) (a .s) (a .l) text (panel read) in
     (reply, (marks, tells _ _ _ reply))
 

@@ -1,5 +1,5 @@
--- `replay::list::next_line` is safe and ends: its turns are counted down.
--- Assumes nothing.
+-- `replay::list::next_line` is safe and ends: its turns are counted down. It is over only where there is no line.
+use mathlib.Core.Bool.{false≢true}
 use borrow.Author.Needs.{needs}
 use Rattle.replay.proofs.list.next_line.Statement.{statement}
 use Rattle.replay.proofs.list.next_line.Tie as tie
@@ -26,13 +26,13 @@ over-requires : tie.Need-over-requires Inv-loop μ-loop
 over-requires c κs = search needs
 
 returns : tie.Need-returns Inv-loop μ-loop
-returns c = search needs
+returns c = λ over. c .over .ensures
 
 with-requires : tie.Need-with-requires Inv-loop μ-loop
 with-requires c κs = search needs
 
 returns-2 : tie.Need-returns-2 Inv-loop μ-loop
-returns-2 c = search needs
+returns-2 c = λ over. absurd (false≢true over)
 
 loop-less : tie.Need-loop-less Inv-loop μ-loop
 loop-less c = search needs
@@ -44,7 +44,7 @@ over-requires-2 : tie.Need-over-requires-2 Inv-loop μ-loop
 over-requires-2 c κs = search needs
 
 returns-3 : tie.Need-returns-3 Inv-loop μ-loop
-returns-3 c = search needs
+returns-3 c = λ over. c .over2 .ensures
 
 pub next-line-spec : {M : Type 1} → statement M
 next-line-spec =

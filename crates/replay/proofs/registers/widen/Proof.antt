@@ -1,15 +1,20 @@
--- `replay::registers::widen` is safe and ends: each place is below the end, which is within both lists.
--- Assumes nothing.
+-- `replay::registers::widen` writes word after word: each place is below the end, which is within both lists.
 use Prim.Native.Nat.{_≤_, _-_}
-use borrow.Author.Needs.{needs}
-use lib.ListN.{length, length-set}
-use mathlib.Core.Path.{_≡_}
+use mathlib.Core.Path.{_≡_, refl}
 use native.Mathlib.Omega.{arith}
+use lib.ListN.{length, length-set}
+use denote.Ref.{now}
+use Rattle.words.specs.Word.{word, over}
+use Rattle.words.proofs.Over.{over-step}
+use Rattle.replay.specs.Registers.{narrowed}
+use Rattle.replay.specs.Answers.{widenAfter}
+use borrow.Author.Needs.{needs}
 use Rattle.replay.proofs.registers.widen.Statement.{statement}
 use Rattle.replay.proofs.registers.widen.Tie as tie
 
 abbrev Inv-loop : tie.InvT-loop
-Inv-loop from count to₀ end i₀ to i = (i ≤ end) × (end ≤ length from) × (end ≤ length to) × (length to ≡ length to₀)
+Inv-loop from count to₀ end i₀ to i =
+    (i ≤ end) × (end ≤ length from) × (end ≤ length to) × (length to ≡ length to₀) × (to ≡ over i (word from) to₀)
 
 abbrev μ-loop : tie.MeasureT-loop
 μ-loop from count to₀ end i₀ to i = end - i
@@ -21,7 +26,8 @@ least-requires-2 : tie.Need-least-requires-2 Inv-loop μ-loop
 least-requires-2 c κs = search needs
 
 loop-holds : tie.Need-loop-holds Inv-loop μ-loop
-loop-holds c = search needs
+unfolding over
+loop-holds c = (omega arith, omega arith, omega arith, refl, refl)
 
 shared-slice-read-wide : tie.Need-shared-slice-read-wide Inv-loop μ-loop
 shared-slice-read-wide c = search needs
@@ -42,13 +48,23 @@ loop-less : tie.Need-loop-less Inv-loop μ-loop
 loop-less c = search needs
 
 loop-again : tie.Need-loop-again Inv-loop μ-loop
-loop-again c = simp length-set (omega arith)
+loop-again c =
+    let b = c .before .before .before in
+    let a = b .before .before .before .before .before .args in
+    let i = b .loop .i in
+    let more = over-step i (c .wide .result) (word (now (a .from))) (b .loop .to) (now (a .to)) (b .loop .inv .4) (c .wide .ensures) in
+    (omega arith, omega arith, simp length-set (omega arith), simp length-set (b .loop .inv .3), more)
 
 same-length : tie.Need-same-length Inv-loop μ-loop
 same-length c = search needs
 
 returns : tie.Need-returns Inv-loop μ-loop
-returns c = search needs
+unfolding narrowed widenAfter
+returns c =
+    let a = c .before .before .before .before .before .before .args in
+    let whole : c .before .loop .i ≡ c .before .before .least2 .result = omega arith in
+    let e : c .before .before .least2 .result ≡ narrowed (now (a .from)) (a .count) (now (a .to)) = cc in
+    (e, rw (whole, e) at (c .before .loop .inv .4))
 
 pub widen-spec : {M : Type 1} → statement M
 widen-spec =

@@ -1,8 +1,8 @@
--- `replay::text::size` is safe: a number of 32 bits can be turned round in 64, and is then not below zero.
--- Assumes nothing.
-use Rattle.replay.proofs.Signs.{wider, wider-turn, size-below, size-above}
-use borrow.Author.Needs.{needs}
-use borrow.Author.Needs.{needs}
+-- `replay::text::size` is safe, for a number of 32 bits can be turned round in 64 and is then not below zero; and it drops the sign.
+use mathlib.Core.Path.{ap}
+use lib.IntN.{natAbs}
+use mir.Facts.{toZ-ofZ}
+use Rattle.replay.proofs.Signs.{wider, wider-turn, size-below, size-above, turned-below}
 use Rattle.replay.proofs.text.size.Statement.{statement}
 use Rattle.replay.proofs.text.size.Tie as tie
 
@@ -16,13 +16,13 @@ cast-result-2 : tie.Need-cast-result-2
 cast-result-2 c = size-below (c .before .fits .n) (c .if1 .taken)
 
 returns : tie.Need-returns
-returns c = search needs
+returns c = turned-below (c .before .fits .n) (c .if1 .taken)
 
 cast-result-3 : tie.Need-cast-result-3
 cast-result-3 c = size-above (c .before .fits .n) (c .if1 .left)
 
 returns-2 : tie.Need-returns-2
-returns-2 c = search needs
+returns-2 c = ap natAbs (toZ-ofZ (c .before .fits .n))
 
 pub size-spec : {M : Type 1} → statement M
 size-spec =
