@@ -307,8 +307,8 @@ static void any_font(void)
     s.font[4] = (uint16_t)(within(0, 510) - 255);
     for (unsigned k = 0; k <= codes; k++)
         widths[k] = within(0, 3) == 0 && k < codes ? 0xFFFF : (uint16_t)(within(0, 40) << 8 | within(0, within(0, 3) ? 30 : 254));
-    if (within(0, 2) == 0 && columns > 0) {
-        /* The plain font with the same pictures; now and then a picture takes its neighbour's columns. */
+    if (within(0, 2) == 0) {
+        /* The plain font with the same pictures; now and then a picture takes its neighbour's columns, and the dummy has none. */
         uint16_t *pointers = widths - codes - 2;
         for (unsigned k = 1; k < codes; k++)
             if (within(0, 3) == 0)
@@ -316,6 +316,8 @@ static void any_font(void)
         memmove(s.font + 4, s.font + 8, 2 * (s.font_words - 8));
         s.font[0] = 0x8000;
         s.font_words -= 4 + codes + 1;
+        if (within(0, 3) == 0)
+            s.font[s.font_words - 1] = s.font[s.font_words - 2];
     }
     spell_font();
 }

@@ -76,7 +76,7 @@ uint32_t plain_check(const uint8_t *font, size_t font_bytes)
     }
     if (before > 16 * f.raster)
         return 6;
-    if (f.kerned ? by_bytes(font, end - 1) == 0xFFFF : by_bytes(font, end - 1) == by_bytes(font, end - 2))
+    if (f.kerned && by_bytes(font, end - 1) == 0xFFFF)
         return 7;
     return 0;
 }

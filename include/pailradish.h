@@ -112,7 +112,7 @@ enum {
     PAILRADISH_FONT_LENGTH = 5,   /* length word not raster * height + n + 7; or words of the file not raster * height and n + 11 more in a
                                      plain one, 2 * n + 16 more in a kerned one */
     PAILRADISH_FONT_POINTERS = 6, /* a column pointer below the one before it, or the last one over 16 * raster */
-    PAILRADISH_FONT_DUMMY = 7,    /* no dummy: its entry is FFFF in a kerned file, or it has no columns in a plain one */
+    PAILRADISH_FONT_DUMMY = 7,    /* in a kerned file the dummy's entry is FFFF; a plain file's dummy may have no columns */
 
     PAILRADISH_PANEL_SIZE = 8,    /* row_words, rows or width out of range, strips wider than the panel, or a slice too short for it */
     PAILRADISH_STRIP_RANGE = 9,   /* strip over 31 */
@@ -164,7 +164,8 @@ static inline const char *pailradish_message(uint32_t number)
    below, "1 to 7". What is refused elsewhere comes in the order in which it is named.
 
    A text is bytes, each a code of the font. A zero does not end it. A code that the font does not have is shown as the font's dummy
-   character and counted as a substitute. */
+   character and counted as a substitute. Where a plain font gives its dummy no columns, nothing is drawn for such a code and the pen stays
+   where it is; it is counted all the same. */
 
 /* Checks the bytes of a strike file: 14, or 1 to 7, or 0 for a font that is accepted. */
 uint32_t pailradish_check(const uint8_t *font, size_t font_bytes);

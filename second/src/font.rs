@@ -49,7 +49,7 @@ pub fn read(words: &[u16]) -> Result<Font<'_>, Refused> {
     refuse_if(!font.header.sizes_are_allowed(), 4)?;
     refuse_if(!font.lengths_agree(), 5)?;
     refuse_if(!font.pointers_are_allowed(), 6)?;
-    refuse_if(!font.has_picture(font.dummy()), 7)?;
+    refuse_if(font.lacks_dummy(), 7)?;
     Ok(font)
 }
 
@@ -159,11 +159,16 @@ impl<'a> Font<'a> {
         self.header.max + 1
     }
 
+    /// A plain font need not show anything for its dummy.
+    fn lacks_dummy(&self) -> bool {
+        self.header.kerned && self.width_entry(self.dummy()) == ABSENT
+    }
+
     fn exists(&self, code: i64) -> bool {
         self.header.min <= code && code <= self.header.max && self.has_picture(code)
     }
 
-    /// For the codes from min to the dummy: a kerned picture without columns is an empty
+    /// For the codes from min to max: a kerned picture without columns is an empty
     /// character and exists, a plain one does not.
     fn has_picture(&self, code: i64) -> bool {
         if self.header.kerned {

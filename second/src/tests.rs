@@ -1,3 +1,4 @@
+mod bare;
 mod conversion;
 mod desk;
 mod generated;

@@ -89,7 +89,7 @@ module _ (d : Drawing) (s : Sound d) where
       rw (rising (codeCount d + 2) 0 (pointerWord d) (omega arith) (pointers-rise d), pointer-end d, le-ltb (16 * rasterOf d) (allColumns d) (raster-holds d))
 
   has-dummy : noDummy (viewWritten d .header) (entryWritten d (codeCount d)) ≡ false
-  unfolding noDummy present codeCount
+  unfolding noDummy codeCount
   has-dummy =
       let narrow = max-width-small d s in
       rw (format-kerned d, entry-dummy d, ne-eqb (maxWidth d) 0xFFFF (λ e. omega arith))

@@ -163,15 +163,21 @@ pointerLimits =
     ++ bothKinds (65 ∷ 65 ∷ []) (10 ∷ 1 ∷ 0 ∷ 0 ∷ 2 ∷ []) 2 1 32 0
     ++ bothKinds (65 ∷ 65 ∷ []) (10 ∷ 1 ∷ 0 ∷ 0 ∷ 2 ∷ []) 2 1 33 6
 
--- "7: no dummy: kerned entry FFFF; plain, no columns"
+-- "7: no dummy: kerned entry FFFF". P1: a plain file whose dummy has no columns "is to load"; "7 stays for kerned files only"
 unfoldable pub dummyLimits : List Row
 dummyLimits =
-    reads (set plainFile 13 3) 7
-    ∷ reads (set plainFile 13 4) 0
-    ∷ reads (set kernedFile 17 3) 0
-    ∷ reads (set kernedFile 20 0xFFFF) 7
+    -- the dummy's edges equal, and one column apart
+    putInBoth 13 17 3 0
+    ++ putInBoth 13 17 4 0
+    -- the same at the edge of the raster, and no picture at all, the dummy's or another
+    ++ reads (set (set plainFile 12 16) 13 16) 0
+    ∷ reads (set (set plainFile 12 17) 13 17) 6
+    ∷ bothKinds (65 ∷ 65 ∷ []) (9 ∷ 1 ∷ 0 ∷ 0 ∷ 1 ∷ []) 1 1 0 0
+    ++ reads (set kernedFile 20 0xFFFF) 7
     ∷ reads (set kernedFile 20 0xFFFE) 0
     ∷ reads (set kernedFile 19 0xFFFF) 0
+    -- an absent dummy in a kerned file is refused whether it has columns or not
+    ∷ reads (set (set kernedFile 17 3) 20 0xFFFF) 7
     ∷ []
 
 -- "The reader doesn't look at fixed, maxwidth, FBBoy, FBBdx or FBBdy"; fixed is above
@@ -491,7 +497,7 @@ abbrev pub overCodes : Flaw (List ℕ)
 overCodes = flaw 3 (λ file. set (set file 1 256) 2 257)
 
 -- 2 is earned by the index bit, and 4 by a word among the first 8, so that it stands in a file cut to them: xoffset, or FBBox. A file that
--- is cut has the wrong length too, so 5 stands beside 1.
+-- is cut has the wrong length too, so 5 stands beside 1. No plain file earns 7.
 unfoldable pub plainFlaws : List (Flaw (List ℕ))
 plainFlaws =
     cutTo 8
@@ -500,7 +506,6 @@ plainFlaws =
     ∷ put 4 7 1
     ∷ put 5 4 11
     ∷ inTables 6 11 4
-    ∷ inTables 7 13 3
     ∷ []
 
 unfoldable pub kernedFlaws : List (Flaw (List ℕ))

@@ -1,7 +1,7 @@
 -- What every dot promises.
 use Prim.Native.Nat.{ℕ, _+_, _*_, _/_, _%_, _<_, _≤_}
 use mathlib.Core.Path.{_≡_}
-use mathlib.Core.Bool.{Bool, true, false, cond, _&&_}
+use mathlib.Core.Bool.{Bool, true, false, cond, _&&_, and-false}
 use mathlib.Core.List.{List}
 use native.Mathlib.Omega.{arith}
 use native.Mathlib.Nat.{mul-le-mul}
@@ -35,3 +35,8 @@ row-start row raster h k = mul-le-mul h k
 pub dot-past : (ws : List ℕ) (g : Glyph) (r j : ℕ) → g .height ≤ r → dotOf ws g r j ≡ 0
 unfolding dotOf
 dot-past ws g r j h = rw (le-ltb r (g .height) h)
+
+-- nor in a column past it
+pub dot-beside : (ws : List ℕ) (g : Glyph) (r j : ℕ) → g .columns ≤ j → dotOf ws g r j ≡ 0
+unfolding dotOf
+dot-beside ws g r j h = rw (le-ltb j (g .columns) h, and-false (ltb r (g .height)))

@@ -6,4 +6,5 @@ pub mod Steps
 pub mod Accepted
 pub mod Rows
 pub mod Left
+pub mod Blob
 pub mod Outcomes

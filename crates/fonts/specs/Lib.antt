@@ -2,3 +2,4 @@ pub mod Strike
 pub mod Entry
 pub mod Reading
 pub mod Face
+pub mod Blob

@@ -14,7 +14,7 @@ use Rattle.fonts.specs.declared.Entry.{Entry}
 use Rattle.fonts.specs.declared.Reading.{Reading}
 use Rattle.fonts.specs.declared.Reading.the-variants.{Accepted, Refused}
 use Rattle.fonts.specs.Strike.{viewOf, kerned, codes, height, pointersOf, widthsOf, bodySum, fileSum}
-use Rattle.fonts.specs.Entry.{entryAt, present}
+use Rattle.fonts.specs.Entry.{entryAt}
 
 -- 1: "fewer than 9 words"
 unfoldable pub tooShort : ℕ → Bool
@@ -56,9 +56,9 @@ fallsFrom before (p ∷ pointers) = ltb p before || fallsFrom p pointers
 unfoldable pub badPointers : Body → Bool → Entry → Bool
 badPointers b falls dummy = falls || ltb (16 * b .raster) (dummy .right)
 
--- 7: "no dummy: kerned entry FFFF; plain, no columns", which is how a code doesn't exist
+-- 7: "no dummy: kerned entry FFFF". P1: "7 stays for kerned files only"; a plain dummy may have no columns
 unfoldable pub noDummy : Header → Entry → Bool
-noDummy h dummy = not (present h dummy)
+noDummy h dummy = kerned h && eqb (dummy .width) 0xFFFF
 
 -- 1 to 5, which the words before the bitmap and the number of words decide
 unfoldable pub headNumber : View → ℕ → ℕ

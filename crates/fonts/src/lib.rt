@@ -407,7 +407,10 @@ fn bad_pointers(b: Body, falls: bool, dummy: Entry) -> bool
 fn no_dummy(h: Header, dummy: Entry) -> bool
     ensures { λ r. ⌜ r ≡ noDummy h dummy ⌝ }
 {
-    !dummy.present(h)
+    if h.kerned() {
+        return dummy.width == 0xFFFF;
+    }
+    false
 }
 
 // What a file is refused for by its two tables: by whether the pointers fall, and by the dummy's entry.

@@ -1,23 +1,25 @@
 -- What a call that passed its tests promises: the inverse of the chains of tests.
 use Prim.Native.Nat.{ℕ, _+_, _*_, _≤_}
-use mathlib.Core.Path.{_≡_, ap, _∙_}
+use mathlib.Core.Path.{_≡_, refl, sym, ap, _∙_}
 use mathlib.Core.Bool.{false, _||_}
 use mathlib.Core.List.{[], _∷_}
 use native.Mathlib.Nat.{mul-le-mul-right, suc-mul}
 use native.Mathlib.Numerals.{add-one}
 use native.Mathlib.Omega.{arith}
 use lib.Dec.{ltb}
+use lib.IntN.{ℤ}
 use borrow.Author.Tests.{ltb-false, le-ltb}
 use Rattle.words.specs.Refusal.{firstOf, notWithin}
 use Rattle.words.specs.Place.{outside}
-use Rattle.words.proofs.Passed.{neither, passed, within}
+use Rattle.words.proofs.Passed.{neither, passed, within, stages-passed}
+use Rattle.words.proofs.Chain.{stage-goes-on}
 use Rattle.words.proofs.Signs.{place-le}
 use Rattle.paint.specs.declared.Shape.{Shape}
 use Rattle.paint.specs.declared.Label.{Label}
 use Rattle.paint.specs.declared.Stroke.{Stroke}
 use Rattle.paint.specs.Panel.{badSides, badShape, someShort, badPanel}
 use Rattle.paint.specs.Pen.{strokeOf, Drawable}
-use Rattle.paint.specs.Label.{labelNumber, numberWith}
+use Rattle.paint.specs.Label.{labelNumber, numberWith, measureNumber, numberAfter}
 use Rattle.paint.proofs.Replies.{panel-good, label-good}
 
 -- what a shape and a slice that 8 does not refuse promise
@@ -63,6 +65,31 @@ good-label l bytes e =
       baseline = neither (outside (l .x)) (outside (l .y)) (ten .0) .1;
       short = ltb-false 64 bytes (eleven .0);
     }
+
+-- a shorter text is not refused either
+pub shorter-label : (l : Label) (bytes fewer : ℕ) → fewer ≤ bytes → labelNumber l bytes ≡ 0 → labelNumber l fewer ≡ 0
+unfolding labelNumber firstOf
+shorter-label l bytes fewer less e =
+    let nine = passed (ltb 31 (l .strip)) 9 _ (omega arith) e in
+    let ten = passed (outside (l .x) || outside (l .y)) 10 _ (omega arith) (nine .1) in
+    let eleven = passed (ltb 64 bytes) 11 _ (omega arith) (ten .1) in
+    let short = ltb-false 64 bytes (eleven .0) in
+    rw (nine .0, ten .0, le-ltb 64 fewer (omega arith)) (eleven .1)
+
+pub shorter-measure : (number : ℕ) (x : ℤ) (bytes fewer : ℕ) → fewer ≤ bytes → numberAfter number x bytes ≡ 0
+    → numberAfter number x fewer ≡ 0
+unfolding numberAfter measureNumber firstOf
+shorter-measure number x bytes fewer less e =
+    let font = stages-passed _ _ e in
+    let ten = passed (outside x) 10 _ (omega arith) (font .1) in
+    let eleven = passed (ltb 64 bytes) 11 _ (omega arith) (ten .1) in
+    let short = ltb-false 64 bytes (eleven .0) in
+    sym (stage-goes-on 0 _ _ _ (sym (font .0)) refl (sym (rw (ten .0, le-ltb 64 fewer (omega arith)))))
+
+-- what measuring that is not refused promises of x
+pub measure-near : (number : ℕ) (x : ℤ) (bytes : ℕ) → numberAfter number x bytes ≡ 0 → outside x ≡ false
+unfolding numberAfter measureNumber firstOf
+measure-near number x bytes e = passed (outside x) 10 _ (omega arith) (stages-passed _ _ e .1) .0
 
 -- thirty-two strips fit the panel
 pub strip-fits : (k width rowwords : ℕ) → k ≤ 31 → 32 * width ≤ 16 * rowwords → k * width + width ≤ 16 * rowwords

@@ -12,4 +12,5 @@ pub mod Strips
 pub mod Landing
 pub mod Demand
 pub mod Beside
+pub mod Blob
 pub mod Outcomes

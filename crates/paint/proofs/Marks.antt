@@ -9,6 +9,7 @@ use lib.Dec.{leb, ltb}
 use borrow.Author.Tests.{le-leb, lt-leb, leb-true, leb-false, le-ltb}
 use Rattle.words.specs.Word.{wordOf}
 use Rattle.words.proofs.BitLaws.{on-digit}
+use Rattle.words.proofs.Passed.{either-way}
 use Rattle.words.proofs.Bits.{word-of-same, word-of-none, word-of-lt, and-words, later, shifted-word}
 use Rattle.fonts.specs.declared.Glyph.{Glyph}
 use Rattle.paint.specs.declared.Strip.{Strip}
@@ -72,10 +73,6 @@ clipped f g hf hg = and-words f g hf hg ∙ word-of-same _ _ (λ i less. product
 
 -- ---- the mask
 
-choice-zero : (t : Bool) (a : ℕ) → a ≡ 0 → cond t a 0 ≡ 0
-choice-zero true a e = e
-choice-zero false a e = refl
-
 mark-product : (t : Bool) (a b : ℕ) → a < 2 → b < 2 → cond t (a * b) 0 < 2
 mark-product true a b ha hb = on-digit (λ (x : ℕ). x * b < 2) (rw (zero-mul b) (omega arith)) (rw (one-mul b) hb) a ha
 mark-product false a b ha hb = omega arith
@@ -101,7 +98,15 @@ module _ (dot : Glyph → ℕ → ℕ → ℕ) (k : Stroke) (pen : Pen) (g : Gly
   unfolding mark
   mark-beside column out =
       let here = rowDots (column + 4096 - k .strip .from) in
-      choice-zero (leb (k .y) below) _ (ap (λ (b : ℕ). here * b) out ∙ mul-zero here)
+      either-way (leb (k .y) below) _ 0 (ap (λ (b : ℕ). here * b) out ∙ mul-zero here)
+
+  -- a row of the picture without a dot
+  mark-none : (column : ℕ) → ((j : ℕ) → dot g (below - k .y) j ≡ 0) → mark dot k pen g row column ≡ 0
+  unfolding mark dotAlong
+  mark-none column none =
+      let inside = inStrip (k .strip) column in
+      let clear = either-way (leb (pen .place + g .place) (column + 4096 - k .strip .from)) _ 0 (none _) in
+      either-way (leb (k .y) below) _ 0 (ap (λ (d : ℕ). d * inside) clear ∙ zero-mul inside)
 
   module _ (start : ℕ) where
     -- the row lies above the picture
@@ -127,13 +132,13 @@ module _ (dot : Glyph → ℕ → ℕ → ℕ) (k : Stroke) (pen : Pen) (g : Gly
 
     -- the row lies below the picture
     pub mask-under : ((i j : ℕ) → g .height ≤ i → dot g i j ≡ 0) → k .y + g .height ≤ below → maskFrom dot k pen g row start ≡ 0
-    unfolding maskFrom mark dotAlong
-    mask-under past h =
-        word-of-none _
-        (λ j less.
-        let inside = inStrip (k .strip) (start + j) in
-        let none = choice-zero (leb (pen .place + g .place) (start + j + 4096 - k .strip .from)) _ (past (below - k .y) _ (omega arith)) in
-        choice-zero (leb (k .y) below) _ (ap (λ (d : ℕ). d * inside) none ∙ zero-mul inside))
+    unfolding maskFrom
+    mask-under past h = word-of-none _ (λ j less. mark-none (start + j) (λ i. past (below - k .y) i (omega arith)))
+
+    -- the picture has no dot
+    pub mask-none : ((i j : ℕ) → dot g i j ≡ 0) → maskFrom dot k pen g row start ≡ 0
+    unfolding maskFrom
+    mask-none none = word-of-none _ (λ j less. mark-none (start + j) (none (below - k .y)))
 
     -- the sixteen columns lie outside the strip
     pub mask-beside : ((j : ℕ) → j < 16 → inStrip (k .strip) (start + j) ≡ 0) → maskFrom dot k pen g row start ≡ 0

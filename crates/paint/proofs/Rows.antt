@@ -37,7 +37,7 @@ picture-at dot k pen g row w h =
 
 -- ---- which words a picture leaves alone
 
-no-marks : (mode : Mode) (mask : ℕ) → mask ≡ 0 → effectOf mode mask ≡ identity
+pub no-marks : (mode : Mode) (mask : ℕ) → mask ≡ 0 → effectOf mode mask ≡ identity
 no-marks Paint mask e = ap (effectOf Paint) e
 no-marks Erase mask e = ap (effectOf Erase) e
 no-marks Invert mask e = ap (effectOf Invert) e

@@ -3,8 +3,9 @@ use Rattle.sheets.specs.Sheet.{freshNumber, freshAfter, joinNumber, join
 use Rattle.sheets.specs.Sheet.{SameSheet}
 use Rattle.sheets.specs.Calls.{paintAll, paintReplies, gatherAll, gatherReplies, ofStrip, repliesFor}
 use Rattle.sheets.specs.Cases.{sheetFrom, done, smallCu, smallFont}
-use Rattle.sheets.specs.Fonts.{shown, held, measured, paintedOn, painted, printed, plainFont, plainWide, kernedWide, kernedRight}
-use Rattle.sheets.specs.Fonts.{wideCu, wideWritten, fixedCu, fixedWritten, speltCases, plainCases, wideCases, writtenCases}
+use Rattle.sheets.specs.Fonts.{shown, held, measured, paintedOn, painted, gathered, printed}
+use Rattle.sheets.specs.Fonts.{plainFont, bareFont, emptyFont, plainWide, kernedWide, kernedRight}
+use Rattle.sheets.specs.Fonts.{wideCu, wideWritten, fixedCu, fixedWritten, speltCases, plainCases, blobCases, wideCases, writtenCases}
 use Rattle.paint.proofs.Compute.{computing as below}
 
 unfoldable pub calls : Unit {0}
@@ -12,13 +13,17 @@ unfolding freshNumber freshAfter joinNumber joinAfter applyNumber applyAfter gat
 calls = tt
 
 unfoldable pub fonts : Unit {0}
-unfolding shown held measured paintedOn painted printed plainFont plainWide kernedWide kernedRight wideCu wideWritten fixedCu fixedWritten
+unfolding plainFont bareFont emptyFont plainWide kernedWide kernedRight wideCu wideWritten fixedCu fixedWritten
 fonts = tt
 
+unfoldable pub seen : Unit {0}
+unfolding shown held measured paintedOn painted gathered printed
+seen = tt
+
 unfoldable pub tables : Unit {0}
-unfolding speltCases plainCases wideCases writtenCases
+unfolding speltCases plainCases blobCases wideCases writtenCases
 tables = tt
 
 unfoldable pub computing : Unit {0}
-unfolding below calls fonts tables paintAll paintReplies gatherAll gatherReplies ofStrip repliesFor sheetFrom done smallCu smallFont
+unfolding below calls fonts seen tables paintAll paintReplies gatherAll gatherReplies ofStrip repliesFor sheetFrom done smallCu smallFont
 computing = tt

@@ -6,13 +6,17 @@ use Rattle.words.specs.Word.{bytesOf}
 use Rattle.convert.specs.Conversion.{outputAfter}
 use Rattle.sheets.specs.Cases.{prints}
 use Rattle.sheets.specs.Fonts.{Seen, holds, comes, printed, wideCu, wideWritten, fixedCu, fixedWritten}
-use Rattle.sheets.specs.Fonts.{speltCases, plainCases, wideCases, writtenCases, fontCases}
+use Rattle.sheets.specs.Fonts.{speltCases, plainCases, blobCases, wideCases, writtenCases, fontCases}
 use Rattle.sheets.proofs.Compute.{computing}
 use Rattle.sheets.proofs.Tables.{Hold, both-hold}
 
 plain-hold : Hold plainCases
 unfolding Hold computing
 plain-hold = refl
+
+blob-hold : Hold blobCases
+unfolding Hold computing
+blob-hold = refl
 
 wide-hold : Hold wideCases
 unfolding Hold computing
@@ -45,7 +49,8 @@ written-hold = λ i. wide-written i ∷ fixed-written i ∷ rest-stays i ∷ sho
 
 all-hold : Hold fontCases
 unfolding fontCases
-all-hold = both-hold _ _ (both-hold _ _ (both-hold _ _ spelt-hold plain-hold) wide-hold) written-hold
+all-hold =
+    both-hold _ _ (both-hold _ _ (both-hold _ _ (both-hold _ _ spelt-hold plain-hold) blob-hold) wide-hold) written-hold
 
 pub fonts-hold : map (λ c. c .0) fontCases ≡ map (λ c. c .1) fontCases
 unfolding Hold

@@ -8,4 +8,5 @@ pub mod Effects
 pub mod Exchange
 pub mod Holding
 pub mod Laws
+pub mod Blob
 pub mod Outcomes

@@ -1,5 +1,5 @@
--- Fonts that the worked cases do not have: plain ones, strikes of more than one word a row, boxes on either side of the pen, and CU files
--- of two words a row. The files and all that comes of them were written from the paper and the memo by hand.
+-- Fonts that the worked cases do not have: plain ones, some of them without a blob, strikes of more than one word a row, boxes on either
+-- side of the pen, and CU files of two words a row. The files and all that comes of them were written from the paper and the memo by hand.
 use Prim.Native.Nat.{ℕ}
 use mathlib.Core.Bool.{Bool, true, false}
 use mathlib.Core.List.{List, [], _∷_, _++_}
@@ -11,8 +11,10 @@ use Rattle.fonts.specs.Face.{faceOf, dotsOf, rowOf}
 use Rattle.convert.specs.Conversion.{outputAfter, programOutput}
 use Rattle.paint.specs.declared.Shape.{Shape}
 use Rattle.paint.specs.declared.Reply.{Reply}
-use Rattle.paint.specs.Label.{callOf, replyOf, paintAfter, measureOf}
-use Rattle.sheets.specs.Cases.{Outcome, prints, paints, ends}
+use Rattle.paint.specs.Label.{callOf, replyOf, paintAfter, measureOf, measureFile}
+use Rattle.paint.specs.Sheet.{Sheet}
+use Rattle.sheets.specs.Sheet.{gatherAfter}
+use Rattle.sheets.specs.Cases.{Outcome, prints, paints, gathers, ends}
 
 -- What a font shows for a code: the picture's columns, where its left column goes from the pen, how far the pen moves, whether the dummy
 -- stood in, and its rows, sixteen dots of each, the top row first.
@@ -64,6 +66,13 @@ paintedOn lent font x y mode text =
 unfoldable pub painted : List ℕ → ℤ → ℤ → ℕ → List ℕ → ℕ → Seen
 painted font x y mode text everywhere = paintedOn (panel [] everywhere) font x y mode text
 
+-- and gathered onto a fresh sheet
+unfoldable pub gathered : List ℕ → ℤ → ℤ → ℕ → List ℕ → Seen
+gathered font x y mode text =
+    let fresh : Sheet = record { keep = panel [] 0xFFFF; flip = panel [] 0 } in
+    let sheet = gatherAfter shape (callOf font (record { strip = 1; x = x; y = y; mode = mode }) text) fresh in
+    comes (gathers (sheet .keep) (sheet .flip))
+
 -- what it leaves: the pen and the substitutes, and such a panel
 abbrev pub leaves : ℤ → ℕ → List (ℕ × ℕ) → ℕ → Seen
 leaves pen substitutes words other = comes (paints (ends pen substitutes) (panel words other))
@@ -86,6 +95,24 @@ plainFont =
     ∷ 0xCC80 ∷ 0x7B00 ∷ 0xB780
     -- the pointers: 97 from column 0, 98 has none, 99 from column 3, the dummy from 5 up to 9
     ∷ 0x0000 ∷ 0x0003 ∷ 0x0003 ∷ 0x0005 ∷ 0x0009 ∷ []
+
+-- P1: the same font without a blob. The dummy's dots still stand in the bitmap, but no pointer is past column 5: nothing shows them.
+unfoldable pub bareFont : List ℕ
+bareFont =
+    0x8000 ∷ 0x0061 ∷ 0x0063 ∷ 0x0003
+    ∷ 0x000D ∷ 0x0002 ∷ 0x0001 ∷ 0x0000 ∷ 0x0001
+    ∷ 0xCC80 ∷ 0x7B00 ∷ 0xB780
+    -- the pointers: 97 from column 0, 98 has none, 99 from column 3 up to 5, the dummy has none
+    ∷ 0x0000 ∷ 0x0003 ∷ 0x0003 ∷ 0x0005 ∷ 0x0005 ∷ []
+
+-- A PlainStrike of the code 65 in which no code has a picture, and the dummy has none either.
+unfoldable pub emptyFont : List ℕ
+emptyFont =
+    0x8000 ∷ 0x0041 ∷ 0x0041 ∷ 0x0000
+    -- length 1 × 1 + 1 + 7, ascent, descent, xoffset, raster
+    ∷ 0x0009 ∷ 0x0001 ∷ 0x0000 ∷ 0x0000 ∷ 0x0001
+    ∷ 0xFFFF
+    ∷ 0x0007 ∷ 0x0007 ∷ 0x0007 ∷ []
 
 -- A PlainStrike of the codes 48 and 49, two words a row and two rows high. The picture of 49 is the columns 14 to 18.
 --                  48          49     the dummy
@@ -237,6 +264,58 @@ plainCases =
     )
     ∷ []
 
+-- "draws nothing, moves the pen by 0 and still counts as a substitute"
+abbrev pub nothing : ℕ → Seen
+nothing rows = shows (picture 0 (pos 0) 0 true (replicate rows 0))
+
+-- On strip 1 from x = 2 the codes 97 and 99, whatever absent ones stand beside them, are in the strip's columns 2 to 6, which are 12 to 16:
+--   row 0   ##..#
+--   row 1   .####
+--   row 2   #.##.
+-- which is 000C 8000, 0007 8000 and 000B 0000 in the first two words of a row. The pen goes from 2 by 3 and 2 to 7.
+unfoldable pub blobCases : List (Seen × Seen)
+blobCases =
+    -- absent, below min, above max (the dummy's own code, and the last of all)
+    (shown bareFont 98, nothing 3)
+    ∷ (shown bareFont 96, nothing 3)
+    ∷ (shown bareFont 100, nothing 3)
+    ∷ (shown bareFont 255, nothing 3)
+    -- the letters are as they are in a font with a blob
+    ∷ (shown bareFont 97, shows (picture 3 (pos 0) 3 false (0xC000 ∷ 0x6000 ∷ 0xA000 ∷ [])))
+    ∷ (shown bareFont 99, shows (picture 2 (pos 0) 2 false (0x4000 ∷ 0xC000 ∷ 0x8000 ∷ [])))
+    ∷ (held bareFont 2, holds (0xB780 ∷ []))
+    ∷ (measured bareFont (negsuc 2) (98 ∷ 96 ∷ 100 ∷ 97 ∷ []), replies (ends (pos 0) 3))
+    ∷ (replies (measureFile (bytesOf bareFont) (negsuc 2) (98 ∷ 96 ∷ 100 ∷ 97 ∷ [])), replies (ends (pos 0) 3))
+    ∷ (measured bareFont (pos 1023) (replicate 64 98), replies (ends (pos 1023) 64))
+    -- alone, in Paint, Erase and Invert
+    ∷ (painted bareFont (pos 2) (pos 2) 0 (98 ∷ []) 0xA5A5, leaves (pos 2) 1 [] 0xA5A5)
+    ∷ (painted bareFont (pos 2) (pos 2) 1 (96 ∷ 100 ∷ []) 0xA5A5, leaves (pos 2) 2 [] 0xA5A5)
+    ∷ (painted bareFont (pos 2) (pos 2) 2 (98 ∷ 96 ∷ 255 ∷ []) 0xA5A5, leaves (pos 2) 3 [] 0xA5A5)
+    -- between two letters, and in Invert before, between and behind them
+    ∷ (
+      painted bareFont (pos 2) (pos 2) 0 (97 ∷ 98 ∷ 99 ∷ []) 0,
+      leaves (pos 7) 1 ((0, 0x000C) ∷ (1, 0x8000) ∷ (20, 0x0007) ∷ (21, 0x8000) ∷ (40, 0x000B) ∷ []) 0,
+    )
+    ∷ (
+      painted bareFont (pos 2) (pos 2) 2 (96 ∷ 97 ∷ 98 ∷ 99 ∷ 100 ∷ []) 0xA5A5,
+      leaves (pos 7) 3 ((0, 0xA5A9) ∷ (1, 0x25A5) ∷ (20, 0xA5A2) ∷ (21, 0x25A5) ∷ (40, 0xA5AE) ∷ []) 0xA5A5,
+    )
+    ∷ (
+      painted bareFont (pos 2) (pos 2) 1 (97 ∷ 98 ∷ 98 ∷ 99 ∷ []) 0xFFFF,
+      leaves (pos 7) 2 ((0, 0xFFF3) ∷ (1, 0x7FFF) ∷ (20, 0xFFF8) ∷ (21, 0x7FFF) ∷ (40, 0xFFF4) ∷ []) 0xFFFF,
+    )
+    -- on a sheet: alone it stays fresh, and between two letters it is theirs
+    ∷ (gathered bareFont (pos 2) (pos 2) 2 (98 ∷ []), comes (gathers (panel [] 0xFFFF) (panel [] 0)))
+    ∷ (
+      gathered bareFont (pos 2) (pos 2) 2 (97 ∷ 98 ∷ 99 ∷ []),
+      comes
+          (gathers (panel [] 0xFFFF)
+          (panel ((0, 0x000C) ∷ (1, 0x8000) ∷ (20, 0x0007) ∷ (21, 0x8000) ∷ (40, 0x000B) ∷ []) 0)),
+    )
+    ∷ (shown emptyFont 65, nothing 1)
+    ∷ (measured emptyFont (pos 5) (65 ∷ 66 ∷ []), replies (ends (pos 5) 2))
+    ∷ []
+
 unfoldable pub wideCases : List (Seen × Seen)
 wideCases =
     (shown plainWide 48, shows (picture 14 (pos 0) 14 false (0x8004 ∷ 0x7FF8 ∷ [])))
@@ -298,4 +377,4 @@ speltCases =
     ∷ []
 
 unfoldable pub fontCases : List (Seen × Seen)
-fontCases = speltCases ++ plainCases ++ wideCases ++ writtenCases
+fontCases = speltCases ++ plainCases ++ blobCases ++ wideCases ++ writtenCases

@@ -15,6 +15,11 @@ pub both : (s t : Bool) → (s && t) ≡ true → (s ≡ true) × (t ≡ true)
 both true t e = (refl, e)
 both false t e = absurd (false≢true e)
 
+-- a choice of two that are equal
+pub either-way : {A : Type 0} (t : Bool) (a b : A) → a ≡ b → cond t a b ≡ b
+either-way true a b same = same
+either-way false a b same = refl
+
 -- a dot that is there only where a test holds
 pub choice-one : (t : Bool) (a : ℕ) → cond t a 0 ≡ 1 → (t ≡ true) × (a ≡ 1)
 choice-one true a e = (refl, e)

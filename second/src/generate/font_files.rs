@@ -5,8 +5,8 @@ mod limits;
 mod parts;
 
 use super::random::Random;
-use damage::{damage_format, edge_word, last_pointer_past_the_raster, remove_dummy, DAMAGES};
-use limits::LIMITS;
+use damage::{damage_format, edge_word, last_pointer_past_the_raster, DAMAGES};
+use limits::{kerned_without_dummy, plain_without_blob, LIMITS};
 use parts::{good_parts, overlapping_parts};
 
 /// The words of a font and the numbers that calls on it are aimed by. A damaged font keeps
@@ -42,6 +42,11 @@ pub fn good_font(random: &mut Random) -> MadeFont {
     }
 }
 
+/// A plain font whose dummy has no columns.
+pub fn font_without_blob(random: &mut Random) -> MadeFont {
+    plain_without_blob(random).made()
+}
+
 /// A font that is refused for each of 1 to 7 in turn.
 pub fn refused_font(random: &mut Random, turn: usize) -> MadeFont {
     let mut parts = good_parts(random);
@@ -52,7 +57,7 @@ pub fn refused_font(random: &mut Random, turn: usize) -> MadeFont {
         3 => parts.xoffset = 1,
         4 => parts.length = parts.length.wrapping_add(1),
         5 => last_pointer_past_the_raster(random, &mut parts),
-        6 => remove_dummy(random, &mut parts),
+        6 => return kerned_without_dummy(random).made(),
         _ => return damaged_often(random),
     }
     parts.made()

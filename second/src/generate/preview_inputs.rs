@@ -1,6 +1,6 @@
 //! Inputs of the preview program: fonts, shapes, and lines of all kinds.
 
-use super::font_files::{good_font, refused_font, MadeFont};
+use super::font_files::{font_without_blob, good_font, refused_font, MadeFont};
 use super::label_calls::{bad_shape, good_call, small_shape};
 use super::random::Random;
 use crate::bits::{bytes_from_words, words_from_bytes};
@@ -24,6 +24,8 @@ pub fn preview_input(random: &mut Random, number: usize, fonts: &[Vec<u8>]) -> P
     let turn = number / 10;
     let made = if number % 2 == 0 && !fonts.is_empty() {
         aimed(&fonts[number / 4 % fonts.len()])
+    } else if number % 10 == 5 {
+        font_without_blob(random)
     } else {
         good_font(random)
     };

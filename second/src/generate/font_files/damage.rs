@@ -5,7 +5,7 @@ use crate::bits::two_complement_word;
 use crate::generate::random::Random;
 
 /// Ways to damage one word of a good file.
-pub const DAMAGES: [fn(&mut Random, &mut Parts); 14] = [
+pub const DAMAGES: [fn(&mut Random, &mut Parts); 15] = [
     damage_format,
     damage_codes,
     damage_heights,
@@ -17,7 +17,8 @@ pub const DAMAGES: [fn(&mut Random, &mut Parts); 14] = [
     |random, parts| damage_one_word(random, parts, Table::Entries),
     pointer_that_decreases,
     last_pointer_past_the_raster,
-    remove_dummy,
+    absent_dummy,
+    bare_dummy,
     lengthen_or_shorten,
     words_that_the_reader_passes_over,
 ];
@@ -81,14 +82,16 @@ pub fn last_pointer_past_the_raster(_: &mut Random, parts: &mut Parts) {
     parts.pointers[last] = parts.columns().saturating_add(1);
 }
 
-pub fn remove_dummy(_: &mut Random, parts: &mut Parts) {
-    if parts.kerned {
-        let last = parts.entries.len() - 1;
-        parts.entries[last] = 0xFFFF;
-    } else {
-        let last = parts.pointers.len() - 1;
-        parts.pointers[last] = parts.pointers[last - 1];
-    }
+/// A plain file has no entries, and stays as it is.
+pub fn absent_dummy(_: &mut Random, parts: &mut Parts) {
+    let last = parts.entries.len() - 1;
+    parts.entries[last] = 0xFFFF;
+}
+
+/// Takes the dummy's columns, for which no file is refused.
+pub fn bare_dummy(_: &mut Random, parts: &mut Parts) {
+    let last = parts.pointers.len() - 1;
+    parts.pointers[last] = parts.pointers[last - 1];
 }
 
 /// Makes the bitmap a word longer or shorter than the header says.

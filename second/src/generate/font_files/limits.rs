@@ -1,12 +1,12 @@
 //! Font files at the limits of the reader.
 
-use super::damage::{last_pointer_past_the_raster, remove_dummy};
+use super::damage::{absent_dummy, bare_dummy, last_pointer_past_the_raster};
 use super::parts::{good_parts, Parts, Sizes};
 use crate::bits::two_complement_word;
 use crate::generate::random::Random;
 
 /// Files that agree with their own sums, at each limit of the reader and one past it.
-pub const LIMITS: [fn(&mut Random) -> Parts; 34] = [
+pub const LIMITS: [fn(&mut Random) -> Parts; 35] = [
     |random| limit_of_codes(random, 9, 8),
     |random| limit_of_codes(random, 256, 255),
     |random| limit_of_codes(random, 250, 255),
@@ -36,7 +36,8 @@ pub const LIMITS: [fn(&mut Random) -> Parts; 34] = [
     |random| limit_of_fbbox(random, 32_768),
     last_pointer_at_the_raster,
     |random| altered(random, last_pointer_past_the_raster),
-    |random| altered(random, remove_dummy),
+    kerned_without_dummy,
+    plain_without_blob,
     |random| limit_of_length(random, 248),
     |random| limit_of_length(random, 249),
     |random| limit_of_length(random, 1),
@@ -122,8 +123,25 @@ fn last_pointer_at_the_raster(random: &mut Random) -> Parts {
     parts
 }
 
+/// Only a kerned file is refused for its dummy.
+pub fn kerned_without_dummy(random: &mut Random) -> Parts {
+    let mut sizes = small_sizes(random);
+    sizes.kerned = true;
+    altered_from(random, sizes, absent_dummy)
+}
+
+pub fn plain_without_blob(random: &mut Random) -> Parts {
+    let mut sizes = small_sizes(random);
+    sizes.kerned = false;
+    altered_from(random, sizes, bare_dummy)
+}
+
 fn altered(random: &mut Random, damage: fn(&mut Random, &mut Parts)) -> Parts {
     let sizes = small_sizes(random);
+    altered_from(random, sizes, damage)
+}
+
+fn altered_from(random: &mut Random, sizes: Sizes, damage: fn(&mut Random, &mut Parts)) -> Parts {
     let mut parts = Parts::of_sizes(random, sizes);
     damage(random, &mut parts);
     parts

@@ -117,7 +117,7 @@ pub fn good_parts(random: &mut Random) -> Parts {
     let kerned = random.below(5) < 3;
     let (min, max) = random_codes(random);
     let (ascent, descent) = random_heights(random);
-    let pointers = random_pointers(random, kerned, max - min + 1);
+    let pointers = random_pointers(random, max - min + 1);
     let slack = i64::from(random.one_in(4));
     let sizes = Sizes {
         kerned,
@@ -193,12 +193,17 @@ fn random_heights(random: &mut Random) -> (i64, i64) {
     }
 }
 
-/// One pointer for each code from min to max + 2, from widths that are often small.
-fn random_pointers(random: &mut Random, kerned: bool, codes: i64) -> Vec<u16> {
+/// One pointer for each code from min to max + 2, from widths that are often small. Some dummies
+/// have no columns.
+fn random_pointers(random: &mut Random, codes: i64) -> Vec<u16> {
     let widest = if codes > 20 { 3 } else { 7 };
     let mut widths: Vec<i64> = (0..codes).map(|_| random_width(random, widest)).collect();
-    let least_dummy = if kerned && random.one_in(6) { 0 } else { 1 };
-    widths.push(random.between(least_dummy, 7));
+    let dummy = if random.one_in(6) {
+        0
+    } else {
+        random.between(1, 7)
+    };
+    widths.push(dummy);
     let first = if random.one_in(6) {
         random.between(1, 20)
     } else {
