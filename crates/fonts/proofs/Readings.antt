@@ -32,6 +32,10 @@ module _ (number : ℕ) (view : View) where
   pub reading-number : readingNumber (readingFor number view) ≡ number
   reading-number = by-choice (λ (r : Reading). readingNumber r ≡ number) (λ nothing. sym nothing) (λ some. refl)
 
+  -- so an answer that is known tells it too
+  pub tells : (answer : Reading) → answer ≡ readingFor number view → (answer ≡ readingFor number view) × (readingNumber answer ≡ number)
+  tells answer is = (is, ap readingNumber is ∙ reading-number)
+
   pub read-refused : (n : ℕ) → readingFor number view ≡ Refused n → (n ≡ number) × (n ≡ 0 → ⊥)
   read-refused n =
       by-choice (λ (r : Reading). r ≡ Refused n → (n ≡ number) × (n ≡ 0 → ⊥))

@@ -34,7 +34,8 @@ use Rattle.paint.specs.Label.{callOf, callNumber, numberWith, lastPen, r
 use Rattle.paint.specs.Label.{effectWith, callEffect, paintAfter, numberAfter, measureFor}
 use Rattle.paint.proofs.Marks.{mask-none}
 use Rattle.paint.proofs.Rows.{no-marks}
-use Rattle.paint.proofs.Accepted.{good-label, shorter-label, shorter-measure, measure-near}
+use Rattle.paint.proofs.Accepted.{good-label, shorter-label, shorter-measure}
+use Rattle.paint.proofs.Replies.{measure-good}
 use Rattle.paint.proofs.Demand.{label-words, face-bit}
 
 -- the pen where it stands, with some substitutes more
@@ -161,10 +162,11 @@ module _ (font : List ℕ) (bare : NoBlob font) (before after : List ℕ) (c : �
   -- measuring, where the font in words or in bytes has this number
   pub among-measure : (number : ℕ) (x : ℤ) → numberAfter number x (length with) ≡ 0
       → OneMore (measureFor number font x with) (measureFor number font x without)
-  unfolding measureFor
+  unfolding measureFor numberAfter
   among-measure number x accepted =
-      replies-one-more _ _ _ _ accepted
-      (shorter-measure number x (length with) (length without) (one-fewer before after c) accepted) (pen-counts x)
+      let good = stages-passed _ _ accepted in
+      let short = shorter-measure x (length with) (length without) (one-fewer before after c) (good .1) in
+      replies-one-more _ _ _ _ accepted (sym (stage-goes-on 0 _ _ _ (sym (good .0)) refl (sym short))) (pen-counts x)
 
 -- ---- a label of absent codes
 
@@ -202,8 +204,8 @@ module _ (font : List ℕ) (bare : NoBlob font) where
 
     pub alone-measure : (number : ℕ) (x : ℤ) → numberAfter number x (length text) ≡ 0
         → measureFor number font x text ≡ Done (record { pen = x; substitutes = length text })
-    unfolding measureFor
-    alone-measure number x accepted = replies-alone _ x accepted (measure-near number x (length text) accepted)
+    unfolding measureFor numberAfter
+    alone-measure number x accepted = replies-alone _ x accepted (measure-good x (length text) (stages-passed _ _ accepted .1) .0)
 
     -- nothing is done to any word of a panel or of a sheet
     pub alone-effect : (s : Shape) (l : Label) (i : ℕ) → callEffect s (callOf font l text) i ≡ identity

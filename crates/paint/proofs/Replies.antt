@@ -40,12 +40,12 @@ one-rule : (t : Bool) → _≡_ {A = ℕ} (cond t 8 0) 0 → t ≡ false
 one-rule true e = absurd (omega arith)
 one-rule false e = refl
 
--- a text that measuring does not refuse has 64 bytes at most
-pub measure-short : (x : ℤ) (bytes : ℕ) → measureNumber x bytes ≡ 0 → bytes ≤ 64
+-- what measuring that is not refused promises of x and of the text
+pub measure-good : (x : ℤ) (bytes : ℕ) → measureNumber x bytes ≡ 0 → (outside x ≡ false) × (bytes ≤ 64)
 unfolding measureNumber firstOf
-measure-short x bytes e =
+measure-good x bytes e =
     let place = passed (outside x) 10 _ (omega arith) e in
-    ltb-false 64 bytes (passed (ltb 64 bytes) 11 _ (omega arith) (place .1) .0)
+    (place .0, ltb-false 64 bytes (passed (ltb 64 bytes) 11 _ (omega arith) (place .1) .0))
 
 -- ---- with a font that has been read
 

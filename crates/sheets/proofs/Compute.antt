@@ -4,7 +4,7 @@ use Rattle.sheets.specs.Sheet.{SameSheet}
 use Rattle.sheets.specs.Calls.{paintAll, paintReplies, gatherAll, gatherReplies, ofStrip, repliesFor}
 use Rattle.sheets.specs.Cases.{sheetFrom, done, smallCu, smallFont}
 use Rattle.sheets.specs.Fonts.{shown, held, measured, paintedOn, painted, gathered, printed}
-use Rattle.sheets.specs.Fonts.{plainFont, bareFont, emptyFont, plainWide, kernedWide, kernedRight}
+use Rattle.sheets.specs.Fonts.{plainFont, bareFont, emptyFont, plainWide, kernedWide, kernedRight, kernedBare}
 use Rattle.sheets.specs.Fonts.{wideCu, wideWritten, fixedCu, fixedWritten, speltCases, plainCases, blobCases, wideCases, writtenCases}
 use Rattle.paint.proofs.Compute.{computing as below}
 
@@ -13,7 +13,7 @@ unfolding freshNumber freshAfter joinNumber joinAfter applyNumber applyAfter gat
 calls = tt
 
 unfoldable pub fonts : Unit {0}
-unfolding plainFont bareFont emptyFont plainWide kernedWide kernedRight wideCu wideWritten fixedCu fixedWritten
+unfolding plainFont bareFont emptyFont plainWide kernedWide kernedRight kernedBare wideCu wideWritten fixedCu fixedWritten
 fonts = tt
 
 unfoldable pub seen : Unit {0}

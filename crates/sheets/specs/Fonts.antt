@@ -164,6 +164,15 @@ kernedRight =
     -- 64 has offset 0 and spacing 3, the dummy offset 1 and spacing 4
     ∷ 0x0003 ∷ 0x0104 ∷ []
 
+-- The same with a dummy of no columns. P1 speaks of plain files: this dummy draws nothing and still moves the pen by its spacing.
+unfoldable pub kernedBare : List ℕ
+kernedBare =
+    0x9000 ∷ 0x0040 ∷ 0x0040 ∷ 0x0003 ∷ 0x0001 ∷ 0x0000 ∷ 0x0002 ∷ 0x0002
+    ∷ 0x000A ∷ 0x0002 ∷ 0x0000 ∷ 0x0000 ∷ 0x0001
+    ∷ 0xB000 ∷ 0x6000
+    ∷ 0x0000 ∷ 0x0002 ∷ 0x0002
+    ∷ 0x0003 ∷ 0x0104 ∷ []
+
 -- A CU file of three rows and two words a row. The characters come as 68, 65, 66, 64; code 66 is empty. The lowest row of code 65 with a
 -- dot is row 1, and its leftmost dot there is in column 15: that is the origin. Its leftmost dot of all is in column 14.
 --           68, columns 12 to 20   65, 14 to 17   64, 15 and 16
@@ -314,6 +323,10 @@ blobCases =
     )
     ∷ (shown emptyFont 65, nothing 1)
     ∷ (measured emptyFont (pos 5) (65 ∷ 66 ∷ []), replies (ends (pos 5) 2))
+    -- a kerned dummy without columns: from x = 0 the pen goes by 4, and 64 has its left column one right of that, in column 15 of the panel
+    ∷ (shown kernedBare 65, shows (picture 0 (pos 2) 4 true (0x0000 ∷ 0x0000 ∷ [])))
+    ∷ (measured kernedBare (pos 0) (65 ∷ 64 ∷ []), replies (ends (pos 7) 1))
+    ∷ (painted kernedBare (pos 0) (pos 2) 0 (65 ∷ 64 ∷ []) 0, leaves (pos 7) 1 ((0, 0x0001) ∷ (21, 0x8000) ∷ []) 0)
     ∷ []
 
 unfoldable pub wideCases : List (Seen × Seen)

@@ -1,4 +1,5 @@
-//! Plain fonts whose dummy has no columns.
+//! Fonts whose dummy has no columns: plain ones, in which nothing stands in for a code that
+//! does not exist, and a kerned one, in which the pen still moves.
 
 use super::generated::generated;
 use crate::bits::{bytes_from_words, words_from_bytes};
@@ -76,6 +77,23 @@ fn absent_codes_are_measured() {
     let file = bytes_from_words(&BARE);
     assert_eq!(measure_label(&file, -3, &[98, 96, 100, 97]), pen(0, 3));
     assert_eq!(measure(&BARE, 1_023, &[98; 64]), pen(1_023, 64));
+}
+
+/// Code 64, offset 0 and spacing 3, and a dummy of no columns, offset 1 and spacing 4.
+const KERNED: [u16; 20] = [
+    0x9000, 0x0040, 0x0040, 0x0003, 0x0001, 0x0000, 0x0002, 0x0002, //
+    0x000A, 0x0002, 0x0000, 0x0000, 0x0001, //
+    0xB000, 0x6000, //
+    0x0000, 0x0002, 0x0002, //
+    0x0003, 0x0104,
+];
+
+#[test]
+fn a_kerned_dummy_without_columns_moves_the_pen_by_its_spacing() {
+    assert_eq!(measure(&KERNED, 0, &[65, 64]), pen(7, 1));
+    let mut panel = vec![0xA5A5; 24];
+    assert_eq!(paint(&KERNED, &call(2, &[65]), &mut panel), pen(5, 1));
+    assert_eq!(panel, [0xA5A5; 24]);
 }
 
 /// In a plain file the last two words are the dummy's edges.

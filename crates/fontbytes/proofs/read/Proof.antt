@@ -1,16 +1,15 @@
 -- `fontbytes::read` meets its contract: 14, or what reading the words answers.
 -- Assumes nothing.
 use Prim.Native.Nat.{ℕ}
-use mathlib.Core.Path.{_≡_, sym, ap, _∙_}
+use mathlib.Core.Path.{_≡_, sym, _∙_}
 use mathlib.Core.Bool.{true, false}
 use mathlib.Core.List.{List}
 use denote.Ref.{now}
 use Rattle.words.specs.Word.{wordsOf, oddBytes}
-use Rattle.fonts.specs.declared.Reading.{Reading}
 use Rattle.fonts.specs.declared.Reading.the-variants.{Refused}
 use Rattle.fonts.specs.Strike.{viewOf}
-use Rattle.fonts.specs.Reading.{readingFor, readingOf, readingNumber}
-use Rattle.fonts.proofs.Readings.{reading-number}
+use Rattle.fonts.specs.Reading.{readingFor, readingOf}
+use Rattle.fonts.proofs.Readings.{tells}
 use Rattle.fontbytes.specs.File.{fileNumber, fileReading}
 use borrow.Author.Needs.{needs}
 use Rattle.fontbytes.proofs.read.Statement.{statement}
@@ -24,11 +23,6 @@ even-read : (bytes : List ℕ) → oddBytes bytes ≡ false → readingOf (words
 unfolding fileNumber
 even-read bytes even = rw even
 
--- the answer, and so the paper's number for it
-both : (bytes : List ℕ) (answer : Reading) → answer ≡ fileReading bytes
-    → (answer ≡ fileReading bytes) × (readingNumber answer ≡ fileNumber bytes)
-both bytes answer is = (is, ap readingNumber is ∙ reading-number (fileNumber bytes) (viewOf (wordsOf bytes)))
-
 odd-bytes-requires : tie.Need-odd-bytes-requires
 odd-bytes-requires c κs = search needs
 
@@ -36,7 +30,8 @@ returns : tie.Need-returns
 returns c =
     let asked = c .before in
     let bytes = now (asked .before .before .args .font) in
-    both bytes _ (odd-refused bytes (sym (asked .odd-bytes .ensures) ∙ c .if1 .taken))
+    let odd = sym (asked .odd-bytes .ensures) ∙ c .if1 .taken in
+    tells (fileNumber bytes) (viewOf (wordsOf bytes)) _ (odd-refused bytes odd)
 
 read-words-requires : tie.Need-read-words-requires
 read-words-requires c κs = search needs
@@ -45,7 +40,8 @@ returns-2 : tie.Need-returns-2
 returns-2 c =
     let asked = c .before .before in
     let bytes = now (asked .before .before .args .font) in
-    both bytes _ (c .read-words .ensures ∙ even-read bytes (sym (asked .odd-bytes .ensures) ∙ c .before .if1 .left))
+    let even = sym (asked .odd-bytes .ensures) ∙ c .before .if1 .left in
+    tells (fileNumber bytes) (viewOf (wordsOf bytes)) _ (c .read-words .ensures ∙ even-read bytes even)
 
 pub read-spec : {M : Type 1} → statement M
 read-spec = tie.close (tie.spec odd-bytes-requires returns read-words-requires returns-2)

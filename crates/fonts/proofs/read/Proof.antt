@@ -5,12 +5,11 @@ use mathlib.Core.Path.{_≡_, ap, _∙_}
 use mathlib.Core.List.{List}
 use denote.Ref.{now}
 use Rattle.fonts.specs.Strike.{viewOf}
-use Rattle.fonts.specs.Reading.{numberBy, fontNumber, readingFor, readingOf, readingNumber}
+use Rattle.fonts.specs.Reading.{numberBy, fontNumber, readingFor}
 use Rattle.fonts.specs.declared.View.{View}
-use Rattle.fonts.specs.declared.Reading.{Reading}
 use Rattle.fonts.specs.declared.Reading.the-variants.{Accepted, Refused}
 use Rattle.words.proofs.Chain.{chain-of-replies}
-use Rattle.fonts.proofs.Readings.{reading-number}
+use Rattle.fonts.proofs.Readings.{tells}
 use borrow.Author.Needs.{needs}
 use Rattle.fonts.proofs.read.Statement.{statement}
 use Rattle.fonts.proofs.read.Tie as tie
@@ -29,24 +28,19 @@ of-requires c κs = search needs
 number-by-requires : tie.Need-number-by-requires
 number-by-requires c κs = search needs
 
--- the answer, and so the paper's number for it
-both : (c : tie.After-number-by) (answer : Reading) → answer ≡ readingOf (font-of c)
-    → (answer ≡ readingOf (font-of c)) × (readingNumber answer ≡ fontNumber (font-of c))
-both c answer is = (is, ap readingNumber is ∙ reading-number (fontNumber (font-of c)) (viewOf (font-of c)))
-
 returns : tie.Need-returns
 unfolding readingFor
 returns c =
     let number = number-is (c .before) in
     let refused = ap Refused number in
-    both (c .before) _ (search chain-of-replies)
+    tells (fontNumber (font-of (c .before))) (viewOf (font-of (c .before))) _ (search chain-of-replies)
 
 returns-2 : tie.Need-returns-2
 unfolding readingFor
 returns-2 c =
     let number = number-is (c .before) in
     let read = ap Accepted (c .before .before .of .ensures) in
-    both (c .before) _ (search chain-of-replies)
+    tells (fontNumber (font-of (c .before))) (viewOf (font-of (c .before))) _ (search chain-of-replies)
 
 pub read-spec : {M : Type 1} → statement M
 read-spec = tie.close (tie.spec of-requires number-by-requires returns returns-2)

@@ -13,7 +13,7 @@ use Rattle.paint.specs.declared.Pen.{Pen}
 use Rattle.paint.specs.Pen.{penAlong, stepsOf}
 use Rattle.paint.specs.Label.{lastPen, measureNumber}
 use Rattle.paint.proofs.Along.{pen-starts}
-use Rattle.paint.proofs.Replies.{measure-short, measuring-refused, measuring-done}
+use Rattle.paint.proofs.Replies.{measure-good, measuring-refused, measuring-done}
 use borrow.Author.Needs.{needs}
 use Rattle.paint.proofs.measure_read.Statement.{statement}
 use Rattle.paint.proofs.measure_read.Tie as tie
@@ -46,7 +46,7 @@ at-requires c κs = search needs
 pen-along-requires : tie.Need-pen-along-requires
 pen-along-requires c κs =
     let n = c .before .before in
-    let short = measure-short (call n .args .x) (length (text n)) (sym (number n) ∙ c .before .if1 .left) in
+    let short = measure-good (call n .args .x) (length (text n)) (sym (number n) ∙ c .before .if1 .left) .1 in
     ((omega arith, omega arith), short)
 
 done-requires : tie.Need-done-requires

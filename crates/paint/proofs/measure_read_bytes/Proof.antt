@@ -12,7 +12,7 @@ use denote.Ref.{now}
 use Rattle.words.specs.Word.{wordsOf}
 use Rattle.fonts.specs.Face.{Face, faceFrom}
 use Rattle.paint.specs.Label.{lastPen, measureNumber}
-use Rattle.paint.proofs.Replies.{measure-short, measuring-refused, measuring-done}
+use Rattle.paint.proofs.Replies.{measure-good, measuring-refused, measuring-done}
 use borrow.Author.Needs.{needs}
 use Rattle.paint.proofs.measure_read_bytes.Statement.{statement}
 use Rattle.paint.proofs.measure_read_bytes.Tie as tie
@@ -45,7 +45,7 @@ returns c =
 last-pen-in-bytes-requires : tie.Need-last-pen-in-bytes-requires
 last-pen-in-bytes-requires c κs =
     let n = c .before in
-    measure-short (call n .args .x) (length (text n)) (sym (number n) ∙ c .if1 .left)
+    measure-good (call n .args .x) (length (text n)) (sym (number n) ∙ c .if1 .left) .1
 
 done-requires : tie.Need-done-requires
 done-requires c κs = search needs
