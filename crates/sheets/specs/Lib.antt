@@ -2,3 +2,4 @@ pub mod Sheet
 pub mod Calls
 pub mod Cases
 pub mod Fonts
+pub mod Edges
