@@ -1,8 +1,11 @@
 /* Calls the exports, or plain C that does the same, on inputs that are made here and are the same each time.
 
-       bench list                   prints the cases: kind|case|size|title
-       bench check                  both give the same reply and the same words in every case, and on many inputs at random
-       bench CASE SIZE WHO TIMES    sets up a case and calls it so many times; WHO is proved or plain */
+       bench list                   prints the cases: kind|export|case|size|title
+       bench check                  all give the same reply and the same words in every case, and on many inputs at random
+       bench CASE SIZE WHO TIMES    sets up a case and calls it so many times; WHO is proved or plain, for paint and gather also words or
+                                    tested
+       bench where CASE             for paint and gather: the address of the words that are drawn on, and the one behind them
+       bench least CASE SIZE        how often these words are read at the least, and written */
 #include "pailradish.h"
 #include "plain.h"
 
@@ -16,13 +19,13 @@ enum { FONT = 65536, PANEL = 32768, CU = 65536, OUT = 65536 };
 /* Everything that a call is handed, and its reply: all of it is compared. What calls write stands first. */
 static struct state {
     uint16_t panel[PANEL], keep[PANEL], flip[PANEL], out[OUT], then_keep[PANEL], then_flip[PANEL], cu[CU], font[FONT];
-    uint8_t font_bytes[2 * FONT], text[PAILRADISH_LABEL_BYTES];
+    uint8_t font_bytes[2 * FONT], text[PAILRADISH_LABEL_BYTES + 1];
     size_t font_words, text_bytes, cu_words;
     pailradish_call call;
-    size_t panel_words;
+    size_t panel_words, flip_words;
     pailradish_reply reply;
     pailradish_conversion conversion;
-} s, first;
+} s;
 
 /* Numbers at random, the same each time. */
 static uint64_t seed;
@@ -99,6 +102,18 @@ static void label_font(void)
     kerned_font(32, 95, 42, 12, 9, 7);
 }
 
+/* The same with 20 columns a picture: no row of it is within one word. */
+static void wide_font(void)
+{
+    kerned_font(32, 95, 120, 12, 9, 20);
+}
+
+/* 64 rows and 60 columns a picture. */
+static void poster_font(void)
+{
+    kerned_font(32, 95, 360, 64, 60, 60);
+}
+
 static void text(size_t bytes)
 {
     for (size_t i = 0; i < bytes; i++)
@@ -109,7 +124,7 @@ static void text(size_t bytes)
 static void shape(uint32_t row_words, uint32_t rows, uint32_t width)
 {
     s.call.shape = (pailradish_shape){row_words, rows, width};
-    s.panel_words = (size_t)row_words * rows;
+    s.panel_words = s.flip_words = (size_t)row_words * rows;
 }
 
 static void at(uint32_t strip, int32_t x, int32_t y, uint32_t mode)
@@ -139,7 +154,7 @@ static void cu_file(unsigned characters, unsigned rows, unsigned row_words, bool
 /* A call of each export, and of its plain C. */
 
 #define TEXT s.text, s.text_bytes
-#define SHEET s.keep, s.panel_words, s.flip, s.panel_words
+#define SHEET s.keep, s.panel_words, s.flip, s.flip_words
 
 /* One by one: between them the struct has bytes that mean nothing. */
 static void set_conversion(pailradish_conversion done)
@@ -148,12 +163,15 @@ static void set_conversion(pailradish_conversion done)
     s.conversion.words = done.words;
 }
 
-#define BOTH(who) \
+#define LABEL_CALLS(who) \
+    static void who##_call_paint(void) { s.reply = who##_paint(s.font, s.font_words, s.call, TEXT, s.panel, s.panel_words); } \
+    static void who##_call_gather(void) { s.reply = who##_gather(s.font, s.font_words, s.call, TEXT, SHEET); }
+
+#define ALL_CALLS(who) \
+    LABEL_CALLS(who) \
     static void who##_call_check(void) { s.reply.number = who##_check(s.font_bytes, 2 * s.font_words); } \
     static void who##_call_measure(void) { s.reply = who##_measure(s.font_bytes, 2 * s.font_words, s.call.label.x, TEXT); } \
     static void who##_call_words(void) { set_conversion(who##_words(s.font_bytes, 2 * s.font_words, s.out, OUT)); } \
-    static void who##_call_paint(void) { s.reply = who##_paint(s.font, s.font_words, s.call, TEXT, s.panel, s.panel_words); } \
-    static void who##_call_gather(void) { s.reply = who##_gather(s.font, s.font_words, s.call, TEXT, SHEET); } \
     static void who##_call_fresh(void) { s.reply.number = who##_fresh(s.call.shape, SHEET); } \
     static void who##_call_join(void) \
     { \
@@ -162,16 +180,28 @@ static void set_conversion(pailradish_conversion done)
     static void who##_call_apply(void) { s.reply.number = who##_apply(s.call.shape, SHEET, s.panel, s.panel_words); } \
     static void who##_call_convert(void) { set_conversion(who##_convert(s.cu, s.cu_words, s.out, OUT)); }
 
-BOTH(pailradish)
-BOTH(plain)
+ALL_CALLS(pailradish)
+ALL_CALLS(plain)
+LABEL_CALLS(words)
+LABEL_CALLS(tested)
 
 typedef void call(void);
-static call *const proved[] = {pailradish_call_check, pailradish_call_measure, pailradish_call_words, pailradish_call_paint,
-                               pailradish_call_gather, pailradish_call_fresh, pailradish_call_join, pailradish_call_apply,
-                               pailradish_call_convert};
-static call *const plain[] = {plain_call_check, plain_call_measure, plain_call_words, plain_call_paint, plain_call_gather,
-                              plain_call_fresh, plain_call_join, plain_call_apply, plain_call_convert};
-enum { CHECK, MEASURE, WORDS, PAINT, GATHER, FRESH, JOIN, APPLY, CONVERT };
+enum { CHECK, MEASURE, WORDS, PAINT, GATHER, FRESH, JOIN, APPLY, CONVERT, EXPORTS };
+static const char *const export_names[EXPORTS] = {"check", "measure", "words", "paint", "gather", "fresh", "join", "apply", "convert"};
+
+/* Who can be called. The library stands first. */
+static const struct caller {
+    const char *name;
+    call *calls[EXPORTS];
+} callers[] = {
+    {"proved", {pailradish_call_check, pailradish_call_measure, pailradish_call_words, pailradish_call_paint, pailradish_call_gather,
+                pailradish_call_fresh, pailradish_call_join, pailradish_call_apply, pailradish_call_convert}},
+    {"plain", {plain_call_check, plain_call_measure, plain_call_words, plain_call_paint, plain_call_gather, plain_call_fresh,
+               plain_call_join, plain_call_apply, plain_call_convert}},
+    {"words", {[PAINT] = words_call_paint, [GATHER] = words_call_gather}},
+    {"tested", {[PAINT] = tested_call_paint, [GATHER] = tested_call_gather}},
+};
+enum { PROVED, PLAIN, BY_WORDS, TESTED, CALLERS };
 
 /* The cases. */
 
@@ -187,6 +217,8 @@ static void set_left_edge(unsigned n) { set_label(n), at(31, -37, 11, 0); }
 static void set_left(unsigned n) { set_label(n), at(31, -1000, 11, 0); }
 static void set_right(unsigned n) { set_label(n), at(31, 1000, 11, 0); }
 static void set_top_edge(unsigned n) { set_label(n), at(31, 0, 2, 0); }
+static void set_wide(unsigned n) { wide_font(), shape(128, 16, 64), text(n), at(31, 12, 11, 0); }
+static void set_poster(unsigned n) { poster_font(), shape(128, 80, 64), text(n), at(31, 1, 62, 0); }
 static void set_large_label(unsigned n) { large_font(), shape(128, 16, 64), text(n), at(31, 0, 11, 0); }
 static void set_picture_rows(unsigned n) { kerned_font(32, 95, 42, n, n, 7), shape(128, 256, 64), text(8), at(31, 0, n, 0); }
 static void set_panel_rows(unsigned n) { label_font(), shape(128, n, 64), text(8), at(31, 0, 11, 0); }
@@ -221,6 +253,10 @@ static const struct one {
     {"measure-64k", "measure: 8 bytes, the font of 32,768 words", MEASURE, set_large_label, {8}},
     {"words-64k", "words: 65,536 bytes", WORDS, set_words, {32768}},
     {"paint-8", "paint: 8 bytes, all inside the strip", PAINT, set_label, {8}},
+    {"paint-erase", "paint: 8 bytes, Erase", PAINT, set_erased, {8}},
+    {"paint-invert", "paint: 8 bytes, Invert", PAINT, set_inverted, {8}},
+    {"paint-wide", "paint: 2 bytes of 20 columns", PAINT, set_wide, {2}},
+    {"paint-poster", "paint: 1 byte of 60 columns and 64 rows", PAINT, set_poster, {1}},
     {"paint-64", "paint: 64 bytes, 8 of them inside", PAINT, set_label, {64}},
     {"paint-left", "paint: 16 bytes, clipped left and right", PAINT, set_left_edge, {16}},
     {"paint-outside-left", "paint: 8 bytes, all left of the strip", PAINT, set_left, {8}},
@@ -229,6 +265,8 @@ static const struct one {
     {"gather-paint", "gather: 8 bytes, Paint", GATHER, set_label, {8}},
     {"gather-erase", "gather: 8 bytes, Erase", GATHER, set_erased, {8}},
     {"gather-invert", "gather: 8 bytes, Invert", GATHER, set_inverted, {8}},
+    {"gather-wide", "gather: 2 bytes of 20 columns", GATHER, set_wide, {2}},
+    {"gather-poster", "gather: 1 byte of 60 columns and 64 rows", GATHER, set_poster, {1}},
     {"fresh-24", "fresh: R = 8, H = 3", FRESH, set_panel, {24}},
     {"fresh-32768", "fresh: R = 128, H = 256", FRESH, set_panel, {32768}},
     {"join-24", "join: R = 8, H = 3", JOIN, set_panel, {24}},
@@ -270,33 +308,95 @@ static void set_up(const struct one *c, unsigned size)
     c->set(size);
 }
 
+/* The trips over the bus that a drawing call cannot do without: each character reads and writes each word that its picture reaches inside
+   strip and panel. It is made as simply as can be, and takes nothing from what is measured. */
+
+/* The words that a picture reaches: it is gone through dot by dot, and each word is marked. `left` is counted from the strip. */
+static unsigned long words_reached(int left, int columns, int top, int rows)
+{
+    static bool reached[PANEL];
+    pailradish_shape shape = s.call.shape;
+    unsigned long count = 0;
+    memset(reached, 0, sizeof reached);
+    for (int row = top; row < top + rows; row++)
+        for (int column = left; column < left + columns; column++) {
+            if (row < 0 || row >= (int)shape.rows || column < 0 || column >= (int)shape.width)
+                continue;
+            size_t word = (size_t)row * shape.row_words + (s.call.label.strip * shape.width + (size_t)column) / 16;
+            count += !reached[word];
+            reached[word] = true;
+        }
+    return count;
+}
+
+static unsigned long least_trips(int export)
+{
+    bool kerned = s.font[0] & 0x1000;
+    const uint16_t *body = s.font + (kerned ? 8 : 4), min = s.font[1], max = s.font[2];
+    int rows = body[1] + body[2], top = s.call.label.y - body[1], pen = s.call.label.x;
+    const uint16_t *pointers = body + 5 + body[4] * rows, *widths = pointers + (max - min + 1) + 2;
+    unsigned long count = 0;
+    for (size_t i = 0; i < s.text_bytes; i++) {
+        int k = s.text[i] < min || s.text[i] > max ? max - min + 1 : s.text[i] - min;
+        if (kerned ? widths[k] == 0xFFFF : pointers[k] == pointers[k + 1])
+            k = max - min + 1;
+        int columns = pointers[k + 1] - pointers[k];
+        count += words_reached(kerned ? pen + (int16_t)s.font[4] + widths[k] / 256 : pen, columns, top, rows);
+        pen += kerned ? widths[k] % 256 : columns;
+    }
+    return export == GATHER && s.call.label.mode != PAILRADISH_INVERT ? 2 * count : count;
+}
+
 /* Comparing. */
 
-static unsigned long compared;
+static unsigned long compared, refused[PAILRADISH_MODE_RANGE + 1];
 
-/* Both answer what is set up now alike, and change the same words to the same. A case must be accepted, and must alter words where its
-   export does. */
+static void fail(const char *what, unsigned size, const char *who, const char *why)
+{
+    printf("%s %u: %s %s\n", what, size, who, why);
+    exit(1);
+}
+
+/* Of the plain C the check of a font refuses, and the drawing that is tested. */
+static bool refuses(int who, int export)
+{
+    return export == CHECK || who == TESTED;
+}
+
+/* Beside the number of a refusal there are zeros, and all else is as it was. */
+static void note_refusal(const char *what, unsigned size, const struct state *before)
+{
+    static struct state expected;
+    expected = *before;
+    expected.reply = (pailradish_reply){s.reply.number, 0, 0};
+    if (memcmp(&expected, &s, sizeof s) != 0)
+        fail(what, size, callers[PROVED].name, "refuses and alters something");
+    refused[s.reply.number]++;
+}
+
+/* All answer what is set up now alike, and change the same words to the same. A case must be accepted, and must alter words where its
+   export does. What may be refused is asked only of those that refuse. */
 static void compare(const char *what, unsigned size, int export, bool accepted, bool altering)
 {
-    static struct state before;
+    static struct state before, first;
     before = s;
-    proved[export]();
+    callers[PROVED].calls[export]();
     first = s;
-    s = before;
-    plain[export]();
-    if (memcmp(&first, &s, sizeof s) != 0) {
-        printf("%s %u: the answers differ\n", what, size);
-        exit(1);
+    if (accepted && (s.reply.number != 0 || s.conversion.number != 0))
+        fail(what, size, callers[PROVED].name, "refuses");
+    if (altering && memcmp(&before, &s, offsetof(struct state, then_keep)) == 0)
+        fail(what, size, callers[PROVED].name, "alters nothing");
+    if ((export == PAINT || export == GATHER) && s.reply.number != 0)
+        note_refusal(what, size, &before);
+    for (int who = PLAIN; who < CALLERS; who++) {
+        if (!callers[who].calls[export] || !(accepted || refuses(who, export)))
+            continue;
+        s = before;
+        callers[who].calls[export]();
+        if (memcmp(&first, &s, sizeof s) != 0)
+            fail(what, size, callers[who].name, "answers differently");
+        compared++;
     }
-    if (accepted && (s.reply.number != 0 || s.conversion.number != 0)) {
-        printf("%s %u: refused %u\n", what, size, s.reply.number + s.conversion.number);
-        exit(1);
-    }
-    if (altering && memcmp(&before, &s, offsetof(struct state, then_keep)) == 0) {
-        printf("%s %u: nothing was altered\n", what, size);
-        exit(1);
-    }
-    compared++;
 }
 
 static void any_font(void)
@@ -343,6 +443,95 @@ static void any_cu(void)
     }
 }
 
+/* A word of a font, of its header every other time, and what it may be damaged to: a number at a limit, or any. */
+static uint16_t *any_font_word(void)
+{
+    return s.font + within(0, (uint32_t)(within(0, 1) ? s.font_words : 13) - 1);
+}
+
+static uint16_t any_damage(void)
+{
+    static const uint16_t edges[] = {0,      1,      254,    255,    256,    257,    4096,  4097,
+                                     0x8000, 0x9000, 0xA000, 0xC000, 0xFF00, 0xFF01, 0xFFFF};
+    return within(0, 3) ? edges[within(0, sizeof edges / sizeof *edges - 1)] : (uint16_t)any();
+}
+
+/* How many words of it are handed over: up to two more than it has, or hardly a header. */
+static size_t any_font_end(void)
+{
+    return within(0, within(0, 1) ? (uint32_t)s.font_words + 2 : 14);
+}
+
+/* A font that may be refused: the check alone says why. */
+static void damaged_fonts(unsigned i)
+{
+    for (unsigned k = 0; k < 8; k++) {
+        uint16_t *word = any_font_word(), was = *word;
+        *word = any_damage();
+        spell_font();
+        compare("damaged font", i, CHECK, false, false);
+        *word = was;
+        size_t whole = s.font_words;
+        s.font_words = any_font_end();
+        compare("font cut short", i, CHECK, false, false);
+        s.font_words = whole;
+    }
+}
+
+/* What may be wrong with a drawing call: for each test a value on either side of its limit, or one far away. Some values are accepted. */
+enum { FONT_WORD, FONT_DUMMY, FONT_END, ROW_WORDS, ROWS, WIDTH, PANEL_END, FLIP_END, STRIP, PLACE_X, PLACE_Y, TEXT_END, MODE, FLAWS };
+
+static uint32_t one_of(const uint32_t *values, uint32_t count)
+{
+    return values[within(0, count - 1)];
+}
+#define ONE_OF(...) one_of((const uint32_t[]){__VA_ARGS__}, sizeof(const uint32_t[]){__VA_ARGS__} / sizeof(uint32_t))
+
+static int32_t any_far_place(void)
+{
+    static const int32_t places[] = {INT32_MIN, -1025, -1024, 1023, 1024, INT32_MAX};
+    return places[within(0, sizeof places / sizeof *places - 1)];
+}
+
+static void spoil(int flaw)
+{
+    pailradish_shape *shape = &s.call.shape;
+    pailradish_label *label = &s.call.label;
+    uint32_t half = shape->row_words / 2;
+    switch (flaw) {
+    case FONT_WORD: *any_font_word() = any_damage(); break;
+    case FONT_DUMMY: s.font[s.font_words - 1] = 0xFFFF; break;
+    case FONT_END: s.font_words = any_font_end(); break;
+    case ROW_WORDS: shape->row_words = ONE_OF(0, 1, 2 * shape->width - 1, 128, 129, 0x80000000, 0xFFFFFFFF); break;
+    case ROWS: shape->rows = ONE_OF(0, 256, 257, 0x80000000, 0xFFFFFFFF); break;
+    case WIDTH: shape->width = ONE_OF(0, half, half + 1, 64, 65, 0x80000000, 0x80000001, 0xFFFFFFFF); break;
+    case PANEL_END: s.panel_words -= within(0, 2); break;
+    case FLIP_END: s.flip_words -= within(0, 2); break;
+    case STRIP: label->strip = ONE_OF(31, 32, 0x80000000, 0xFFFFFFFF); break;
+    case PLACE_X: label->x = any_far_place(); break;
+    case PLACE_Y: label->y = any_far_place(); break;
+    case TEXT_END: s.text_bytes = ONE_OF(PAILRADISH_LABEL_BYTES, PAILRADISH_LABEL_BYTES + 1); break;
+    case MODE: label->mode = ONE_OF(2, 3, 0x80000000, 0xFFFFFFFF); break;
+    }
+    if (flaw == ROW_WORDS || flaw == ROWS)
+        s.panel_words = s.flip_words = PANEL;
+}
+
+/* Drawing calls that may be refused: with one flaw, each in its turn, and with some of them together. */
+static void flawed_calls(unsigned i)
+{
+    static struct state whole;
+    whole = s;
+    for (unsigned k = 0; k < 2; k++) {
+        for (unsigned flaw = 0; flaw < FLAWS; flaw++)
+            if (k == 0 ? flaw == i % FLAWS : within(0, 2) == 0)
+                spoil((int)flaw);
+        compare("flawed call", i, PAINT, false, false);
+        compare("flawed call", i, GATHER, false, false);
+        s = whole;
+    }
+}
+
 /* Calls with everything at random. The reply that stands there before is a wrong one. */
 static void random_calls(unsigned count)
 {
@@ -363,20 +552,9 @@ static void random_calls(unsigned count)
         s.conversion.number = 99;
         any_cu();
         compare("random convert", i, CONVERT, true, false);
-        /* A font that may be refused: the check alone says why. */
-        for (unsigned k = 0; k < 8; k++) {
-            static const uint16_t edges[] = {0,      1,      254,    255,    256,    257,    4096,  4097,
-                                             0x8000, 0x9000, 0xA000, 0xC000, 0xFF00, 0xFF01, 0xFFFF};
-            uint16_t *word = s.font + within(0, (uint32_t)(k % 2 ? s.font_words : 13) - 1), was = *word;
-            *word = k < 6 ? edges[within(0, sizeof edges / sizeof *edges - 1)] : (uint16_t)any();
-            spell_font();
-            compare("damaged font", i, CHECK, false, false);
-            *word = was;
-            size_t whole = s.font_words;
-            s.font_words = within(0, (uint32_t)(k % 2 ? whole : 14));
-            compare("font cut short", i, CHECK, false, false);
-            s.font_words = whole;
-        }
+        s.reply = (pailradish_reply){99, 99, 99};
+        damaged_fonts(i);
+        flawed_calls(i);
         s.reply.number = 0;
     }
 }
@@ -391,29 +569,76 @@ static void check_all(void)
         }
     set_up(cases, 27);
     random_calls(500);
+    for (unsigned number = PAILRADISH_FONT_SHORT; number <= PAILRADISH_MODE_RANGE; number++)
+        if (refused[number] == 0)
+            fail("refusal", number, "nobody", "gives it");
     printf("%lu calls compared, all equal\n", compared);
+}
+
+static void list(void)
+{
+    for (const struct one *c = cases; c < cases + CASES; c++)
+        for (const unsigned *size = c->sizes; *size; size++)
+            printf("%s|%s|%s|%u|%s\n", c->sizes[1] ? "series" : "case", export_names[c->export], c->name, *size, c->title);
+}
+
+/* The keep and the flip of a sheet stand side by side. */
+static void where(const struct one *c)
+{
+    const uint16_t *first = c->export == PAINT ? s.panel : s.keep, *end = c->export == PAINT ? s.panel + PANEL : s.flip + PANEL;
+    printf("%ju %ju\n", (uintmax_t)(uintptr_t)first, (uintmax_t)(uintptr_t)end);
+}
+
+static const struct one *case_of(const char *name)
+{
+    for (const struct one *c = cases; c < cases + CASES; c++)
+        if (strcmp(name, c->name) == 0)
+            return c;
+    return NULL;
+}
+
+static call *call_of(const char *name, int export)
+{
+    for (int who = PROVED; who < CALLERS; who++)
+        if (strcmp(name, callers[who].name) == 0)
+            return callers[who].calls[export];
+    return NULL;
+}
+
+static unsigned long number_of(const char *word)
+{
+    return strtoul(word, NULL, 10);
+}
+
+static int usage(void)
+{
+    fprintf(stderr, "usage: bench list, bench check, bench CASE SIZE proved|plain|words|tested TIMES, bench where CASE, or\n"
+                    "       bench least CASE SIZE\n");
+    return 2;
 }
 
 int main(int count, char **words)
 {
-    if (count == 2 && strcmp(words[1], "list") == 0) {
-        for (const struct one *c = cases; c < cases + CASES; c++)
-            for (const unsigned *size = c->sizes; *size; size++)
-                printf("%s|%s|%u|%s\n", c->sizes[1] ? "series" : "case", c->name, *size, c->title);
-        return 0;
-    }
-    if (count == 2 && strcmp(words[1], "check") == 0) {
+    const char *command = count > 1 ? words[1] : "";
+    bool drawing = count > 2 && (strcmp(command, "where") == 0 || strcmp(command, "least") == 0);
+    const struct one *c = case_of(drawing ? words[2] : command);
+    if (count == 2 && strcmp(command, "list") == 0)
+        list();
+    else if (count == 2 && strcmp(command, "check") == 0)
         check_all();
-        return 0;
-    }
-    for (const struct one *c = cases; count == 5 && c < cases + CASES; c++)
-        if (strcmp(words[1], c->name) == 0) {
-            set_up(c, (unsigned)strtoul(words[2], NULL, 10));
-            call *chosen = (strcmp(words[3], "plain") == 0 ? plain : proved)[c->export];
-            for (unsigned long times = strtoul(words[4], NULL, 10); times > 0; times--)
-                chosen();
-            return 0;
-        }
-    fprintf(stderr, "usage: bench list, bench check, or bench CASE SIZE proved|plain TIMES\n");
-    return 2;
+    else if (!c || (drawing && c->export != PAINT && c->export != GATHER))
+        return usage();
+    else if (count == 3 && strcmp(command, "where") == 0)
+        where(c);
+    else if (count == 4 && strcmp(command, "least") == 0) {
+        set_up(c, (unsigned)number_of(words[3]));
+        printf("%lu\n", least_trips(c->export));
+    } else if (count == 5 && call_of(words[3], c->export)) {
+        set_up(c, (unsigned)number_of(words[2]));
+        call *chosen = call_of(words[3], c->export);
+        for (unsigned long times = number_of(words[4]); times > 0; times--)
+            chosen();
+    } else
+        return usage();
+    return 0;
 }

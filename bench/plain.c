@@ -1,112 +1,14 @@
 /* Plain C that does what the exports do, as it is written where nothing is proved: it believes its inputs. It refuses nothing and tests no
    index, paints and converts dot by dot, and applies and joins word by word. Only the check of a font tests, since testing is what it is
    for. It is here to be measured against, and is no part of the library. */
+#include "font.h"
 #include "plain.h"
-
-#include <stdbool.h>
-
-#define ALWAYS static inline __attribute__((always_inline))
-
-/* Word i of a font: of its words, or of its bytes, the high byte first. */
-typedef unsigned reader(const void *font, size_t i);
-
-ALWAYS unsigned by_words(const void *font, size_t i)
-{
-    return ((const uint16_t *)font)[i];
-}
-
-ALWAYS unsigned by_bytes(const void *font, size_t i)
-{
-    const uint8_t *bytes = font;
-    return bytes[2 * i] << 8 | bytes[2 * i + 1];
-}
-
-typedef struct {
-    bool kerned;
-    unsigned min, max, codes, ascent, height, raster;
-    int fbbox;
-    size_t bitmap, pointers, widths;
-} face;
-
-ALWAYS face face_of(reader *word, const void *font)
-{
-    face f;
-    f.kerned = word(font, 0) & 0x1000;
-    size_t body = f.kerned ? 8 : 4;
-    f.min = word(font, 1);
-    f.max = word(font, 2);
-    f.codes = f.max - f.min + 1;
-    f.fbbox = f.kerned ? (int16_t)word(font, 4) : 0;
-    f.ascent = word(font, body + 1);
-    f.height = f.ascent + word(font, body + 2);
-    f.raster = word(font, body + 4);
-    f.bitmap = body + 5;
-    f.pointers = f.bitmap + (size_t)f.raster * f.height;
-    f.widths = f.pointers + f.codes + 2;
-    return f;
-}
 
 uint32_t plain_check(const uint8_t *font, size_t font_bytes)
 {
     if (font_bytes % 2)
         return 14;
-    size_t words = font_bytes / 2;
-    if (words < 9)
-        return 1;
-    unsigned format = by_bytes(font, 0);
-    if ((format & 0xCFFF) != 0x8000)
-        return 2;
-    if (format & 0x1000 && words < 13)
-        return 1;
-    face f = face_of(by_bytes, font);
-    if (f.min > f.max || f.max > 255)
-        return 3;
-    if (f.height < 1 || f.height > 256 || f.raster < 1 || f.raster > 4096 || by_bytes(font, f.bitmap - 2) || f.fbbox < -255
-        || f.fbbox > 255)
-        return 4;
-    size_t end = f.kerned ? f.widths + f.codes + 1 : f.widths;
-    if (by_bytes(font, f.bitmap - 5) != f.raster * f.height + f.codes + 7 || words != end)
-        return 5;
-    unsigned before = 0;
-    for (size_t i = f.pointers; i < f.widths; i++) {
-        unsigned pointer = by_bytes(font, i);
-        if (pointer < before)
-            return 6;
-        before = pointer;
-    }
-    if (before > 16 * f.raster)
-        return 6;
-    if (f.kerned && by_bytes(font, end - 1) == 0xFFFF)
-        return 7;
-    return 0;
-}
-
-/* What a font shows for a code: the columns of its picture, where they go from the pen, and how far the pen moves. */
-typedef struct {
-    unsigned first, columns, advance, substitute;
-    int left;
-} glyph;
-
-ALWAYS glyph glyph_of(reader *word, const void *font, const face *f, unsigned code)
-{
-    unsigned k = code - f->min;
-    bool absent = code < f->min || code > f->max
-        || (f->kerned ? word(font, f->widths + k) == 0xFFFF : word(font, f->pointers + k) == word(font, f->pointers + k + 1));
-    if (absent)
-        k = f->codes;
-    glyph g;
-    g.first = word(font, f->pointers + k);
-    g.columns = word(font, f->pointers + k + 1) - g.first;
-    g.substitute = absent;
-    if (f->kerned) {
-        unsigned entry = word(font, f->widths + k);
-        g.left = f->fbbox + (int)(entry >> 8);
-        g.advance = entry & 0xFF;
-    } else {
-        g.left = 0;
-        g.advance = g.columns;
-    }
-    return g;
+    return font_number(by_bytes, disorder_by_bytes, font, font_bytes / 2);
 }
 
 pailradish_reply plain_measure(const uint8_t *font, size_t font_bytes, int32_t x, const uint8_t *text, size_t text_bytes)
@@ -143,7 +45,7 @@ ALWAYS pailradish_reply draw(const uint16_t *font, pailradish_call call, const u
     int end_row = top + (int)f.height > (int)shape.rows ? (int)shape.rows - top : (int)f.height;
     for (size_t i = 0; i < text_bytes; i++) {
         glyph g = glyph_of(by_words, font, &f, text[i]);
-        int left = reply.pen + g.left;
+        int left = reply.pen + f.fbbox + (int)g.offset;
         int first_column = left < 0 ? -left : 0;
         int end_column = left + (int)g.columns > (int)shape.width ? (int)shape.width - left : (int)g.columns;
         for (int row = first_row; row < end_row; row++) {

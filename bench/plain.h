@@ -1,4 +1,5 @@
-/* Plain C that does what the exports do for inputs that they accept. The parameters are those of include/pailradish.h. */
+/* Plain C that does what the exports do: plain_ and words_ for inputs that they accept, tested_ for all. The parameters are those of
+   include/pailradish.h. */
 #ifndef PLAIN_H
 #define PLAIN_H
 
@@ -25,5 +26,17 @@ uint32_t plain_apply(pailradish_shape shape, const uint16_t *keep, size_t keep_w
                      uint16_t *panel, size_t panel_words);
 
 pailradish_conversion plain_convert(const uint16_t *cu, size_t cu_words, uint16_t *out, size_t out_words);
+
+pailradish_reply words_paint(const uint16_t *font, size_t font_words, pailradish_call call, const uint8_t *text, size_t text_bytes,
+                             uint16_t *panel, size_t panel_words);
+
+pailradish_reply words_gather(const uint16_t *font, size_t font_words, pailradish_call call, const uint8_t *text, size_t text_bytes,
+                              uint16_t *keep, size_t keep_words, uint16_t *flip, size_t flip_words);
+
+pailradish_reply tested_paint(const uint16_t *font, size_t font_words, pailradish_call call, const uint8_t *text, size_t text_bytes,
+                              uint16_t *panel, size_t panel_words);
+
+pailradish_reply tested_gather(const uint16_t *font, size_t font_words, pailradish_call call, const uint8_t *text, size_t text_bytes,
+                               uint16_t *keep, size_t keep_words, uint16_t *flip, size_t flip_words);
 
 #endif

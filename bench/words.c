@@ -1,0 +1,196 @@
+/* Plain C that paints and gathers by words, as it is written for a slow bus where nothing is proved: of a character only the rows and the
+   words that its picture reaches inside strip and panel, each of them read once and written once. words_paint and words_gather believe
+   their inputs; tested_paint and tested_gather refuse what the library refuses. It is here to be measured against, and is no part of the
+   library. */
+#include "font.h"
+#include "plain.h"
+
+/* What a label is drawn on: the keep and the flip of a sheet, or a panel, which is a flip without a keep. The mode is a constant in every
+   copy that the compiler makes of what follows, so that no loop asks for it. */
+typedef struct {
+    uint32_t mode;
+    uint16_t *keep, *flip;
+    size_t row_words;
+} canvas;
+
+/* What all characters of a label share: how many rows of a picture are on the panel, the columns of the strip there, and for the first of
+   these rows the word in front of the bitmap's and the first of the panel's. */
+typedef struct {
+    int rows, strip, strip_end;
+    size_t source, target;
+} frame;
+
+/* One character's words: the first that is read of the font and the first that is touched, how far dots are turned between them, and how
+   many more words of a row are touched. Of the first and the last of these only the dots of a mask may change. */
+typedef struct {
+    size_t source, target;
+    unsigned more, turn, first_mask, last_mask;
+} piece;
+
+/* Where no row is on the panel the strip has no columns either. Then every character is outside it, and whoever draws has a row. */
+ALWAYS frame frame_of(const face *f, pailradish_call call)
+{
+    int top = call.label.y - (int)f->ascent, bottom = top + (int)f->height, rows = (int)call.shape.rows;
+    int first = top < 0 ? 0 : top;
+    frame r;
+    r.rows = (bottom > rows ? rows : bottom) - first;
+    r.strip = (int)(call.label.strip * call.shape.width);
+    r.strip_end = r.strip + (r.rows > 0 ? (int)call.shape.width : 0);
+    r.source = f->bitmap - 1 + (size_t)(first - top) * f->raster;
+    r.target = (size_t)first * call.shape.row_words;
+    return r;
+}
+
+/* Of a picture whose left column is at `left`, the panel's columns from `from` to `last` are inside. The panel's word may begin before the
+   picture, and the picture with the bitmap: so that no column is below 0, they are counted from the word in front of the bitmap's. */
+ALWAYS piece piece_of(const frame *r, unsigned first_column, int left, unsigned from, unsigned last)
+{
+    unsigned word = from / 16, column = 16 + first_column + 16 * word - (unsigned)left;
+    piece p;
+    p.source = r->source + column / 16;
+    p.target = r->target + word;
+    p.more = last / 16 - word;
+    p.turn = column % 16;
+    p.first_mask = 0xFFFF >> from % 16;
+    p.last_mask = 0xFFFF8000 >> last % 16;
+    return p;
+}
+
+/* Sixteen dots from two neighbouring words of a font: a ring of 32 dots, turned. What stands above the sixteen means nothing. The first
+   word is the lower half, since then the compiler reads both at once; it sees that from a pointer, and not from an array and an index. */
+ALWAYS unsigned dots_of(const uint16_t *source, unsigned turn)
+{
+    uint32_t ring = (uint32_t)source[1] << 16 | source[0];
+    return ring << turn | ring >> (-turn & 31);
+}
+
+ALWAYS void touch(const canvas *c, size_t word, unsigned dots)
+{
+    if (c->mode == PAILRADISH_PAINT)
+        c->flip[word] |= dots;
+    else if (c->mode == PAILRADISH_ERASE)
+        c->flip[word] &= ~dots;
+    else
+        c->flip[word] ^= dots;
+    if (c->keep && c->mode != PAILRADISH_INVERT)
+        c->keep[word] &= ~dots;
+}
+
+/* One word in each row. */
+ALWAYS void draw_narrow(const canvas *c, const uint16_t *font, size_t raster, piece p, int rows)
+{
+    unsigned mask = p.first_mask & p.last_mask;
+    do {
+        touch(c, p.target, dots_of(font + p.source, p.turn) & mask);
+        p.source += raster;
+        p.target += c->row_words;
+    } while (--rows);
+}
+
+/* Two words or more in each row. */
+ALWAYS void draw_wide(const canvas *c, const uint16_t *font, size_t raster, piece p, int rows)
+{
+    do {
+        touch(c, p.target, dots_of(font + p.source, p.turn) & p.first_mask);
+        for (size_t i = 1; i < p.more; i++)
+            touch(c, p.target + i, dots_of(font + p.source + i, p.turn));
+        touch(c, p.target + p.more, dots_of(font + p.source + p.more, p.turn) & p.last_mask);
+        p.source += raster;
+        p.target += c->row_words;
+    } while (--rows);
+}
+
+/* The pen is kept where a picture with offset 0 begins, in columns of the panel. */
+ALWAYS pailradish_reply draw_on(canvas c, const uint16_t *font, pailradish_call call, const uint8_t *text, size_t text_bytes)
+{
+    face f = face_of(by_words, font);
+    frame r = frame_of(&f, call);
+    int pen = r.strip + f.fbbox + call.label.x;
+    uint32_t substitutes = 0;
+    for (size_t i = 0; i < text_bytes; i++) {
+        glyph g = glyph_of(by_words, font, &f, text[i]);
+        int left = pen + (int)g.offset, end = left + (int)g.columns;
+        int from = left < r.strip ? r.strip : left;
+        end = end > r.strip_end ? r.strip_end : end;
+        pen += (int)g.advance;
+        substitutes += g.substitute;
+        if (from >= end)
+            continue;
+        piece p = piece_of(&r, g.first, left, (unsigned)from, (unsigned)end - 1);
+        if (p.more == 0)
+            draw_narrow(&c, font, f.raster, p, r.rows);
+        else
+            draw_wide(&c, font, f.raster, p, r.rows);
+    }
+    return (pailradish_reply){0, pen - f.fbbox - r.strip, substitutes};
+}
+
+ALWAYS pailradish_reply draw(const uint16_t *font, pailradish_call call, const uint8_t *text, size_t text_bytes, uint16_t *keep,
+                             uint16_t *flip)
+{
+    size_t row_words = call.shape.row_words;
+    switch (call.label.mode) {
+    case PAILRADISH_PAINT: return draw_on((canvas){PAILRADISH_PAINT, keep, flip, row_words}, font, call, text, text_bytes);
+    case PAILRADISH_ERASE: return draw_on((canvas){PAILRADISH_ERASE, keep, flip, row_words}, font, call, text, text_bytes);
+    default: return draw_on((canvas){PAILRADISH_INVERT, keep, flip, row_words}, font, call, text, text_bytes);
+    }
+}
+
+pailradish_reply words_paint(const uint16_t *font, size_t font_words, pailradish_call call, const uint8_t *text, size_t text_bytes,
+                             uint16_t *panel, size_t panel_words)
+{
+    (void)font_words, (void)panel_words;
+    return draw(font, call, text, text_bytes, NULL, panel);
+}
+
+pailradish_reply words_gather(const uint16_t *font, size_t font_words, pailradish_call call, const uint8_t *text, size_t text_bytes,
+                              uint16_t *keep, size_t keep_words, uint16_t *flip, size_t flip_words)
+{
+    (void)font_words, (void)keep_words, (void)flip_words;
+    return draw(font, call, text, text_bytes, keep, flip);
+}
+
+/* The number by which a call is refused whose font is accepted, or 0. `lent` is the length of the shortest slice that holds a panel. Half a
+   row is compared with the width, since twice a width may be more than its type holds. */
+ALWAYS uint32_t label_number(const pailradish_call *call, size_t text_bytes, size_t lent)
+{
+    pailradish_shape shape = call->shape;
+    pailradish_label label = call->label;
+    if (shape.row_words > PAILRADISH_ROW_WORDS || shape.rows < 1 || shape.rows > PAILRADISH_ROWS || shape.width < 1
+        || shape.width > shape.row_words / 2 || lent < (size_t)shape.row_words * shape.rows)
+        return PAILRADISH_PANEL_SIZE;
+    if (label.strip >= PAILRADISH_STRIPS)
+        return PAILRADISH_STRIP_RANGE;
+    if (label.x < PAILRADISH_LEAST_PLACE || label.x > PAILRADISH_MOST_PLACE || label.y < PAILRADISH_LEAST_PLACE
+        || label.y > PAILRADISH_MOST_PLACE)
+        return PAILRADISH_PLACE_RANGE;
+    if (text_bytes > PAILRADISH_LABEL_BYTES)
+        return PAILRADISH_LABEL_LONG;
+    if (label.mode > PAILRADISH_INVERT)
+        return PAILRADISH_MODE_RANGE;
+    return PAILRADISH_DONE;
+}
+
+ALWAYS uint32_t call_number(const uint16_t *font, size_t font_words, const pailradish_call *call, size_t text_bytes, size_t lent)
+{
+    uint32_t number = font_number(by_words, disorder_by_words, font, font_words);
+    return number ? number : label_number(call, text_bytes, lent);
+}
+
+pailradish_reply tested_paint(const uint16_t *font, size_t font_words, pailradish_call call, const uint8_t *text, size_t text_bytes,
+                              uint16_t *panel, size_t panel_words)
+{
+    uint32_t number = call_number(font, font_words, &call, text_bytes, panel_words);
+    if (number)
+        return (pailradish_reply){number, 0, 0};
+    return words_paint(font, font_words, call, text, text_bytes, panel, panel_words);
+}
+
+pailradish_reply tested_gather(const uint16_t *font, size_t font_words, pailradish_call call, const uint8_t *text, size_t text_bytes,
+                               uint16_t *keep, size_t keep_words, uint16_t *flip, size_t flip_words)
+{
+    uint32_t number = call_number(font, font_words, &call, text_bytes, keep_words < flip_words ? keep_words : flip_words);
+    if (number)
+        return (pailradish_reply){number, 0, 0};
+    return words_gather(font, font_words, call, text, text_bytes, keep, keep_words, flip, flip_words);
+}
