@@ -12,15 +12,15 @@ use Rattle.words.specs.Word.{table}
 use Rattle.fonts.specs.Reading.{fallsFrom}
 
 module _ (xs : List ℕ) (i before : ℕ) (here : i < length xs) where
-  step : fallsFrom before (drop i xs) ≡ (ltb (getD xs i 0) before || fallsFrom (getD xs i 0) (drop (i + 1) xs))
+  pub falls-step : fallsFrom before (drop i xs) ≡ (ltb (getD xs i 0) before || fallsFrom (getD xs i 0) (drop (i + 1) xs))
   unfolding fallsFrom
-  step = rw (add-one, drop-cons xs i 0)
+  falls-step = rw (add-one, drop-cons xs i 0)
 
   pub falls-here : getD xs i 0 < before → fallsFrom before (drop i xs) ≡ true
-  falls-here h = step ∙ rw (lt-ltb (getD xs i 0) before h)
+  falls-here h = falls-step ∙ rw (lt-ltb (getD xs i 0) before h)
 
   pub falls-later : before ≤ getD xs i 0 → fallsFrom before (drop i xs) ≡ fallsFrom (getD xs i 0) (drop (i + 1) xs)
-  falls-later h = step ∙ rw (le-ltb (getD xs i 0) before h)
+  falls-later h = falls-step ∙ rw (le-ltb (getD xs i 0) before h)
 
 pub falls-no-more : (xs : List ℕ) (i before : ℕ) → length xs ≤ i → fallsFrom before (drop i xs) ≡ false
 unfolding fallsFrom

@@ -20,7 +20,7 @@ use Rattle.fonts.proofs.table_number as table-number
 use Rattle.fonts.proofs.number as number
 use Rattle.fonts.proofs.read as read
 use Rattle.fonts.proofs.Step.by as step-by
-use Rattle.fonts.proofs.Glyph.by as glyph-by
+use Rattle.fonts.proofs.Glyph.at as glyph-at
 use Rattle.fonts.proofs.Glyph.of as glyph-of
 use Rattle.fonts.proofs.Glyph.step as step
 use Rattle.fonts.proofs.Glyph.dots as dots
@@ -75,8 +75,8 @@ read-one κs a r o e e′ p q = p .0 ∙ sym (q .0)
 pub step-by-one : OneReply 0 step-by.Kinds.ps step-by.Kinds.r step-by.Reads.Post
 step-by-one κs a r o e e′ p q = p ∙ sym q
 
-pub glyph-by-one : OneReply 0 glyph-by.Kinds.ps glyph-by.Kinds.r glyph-by.Reads.Post
-glyph-by-one κs a r o e e′ p q = p ∙ sym q
+pub glyph-at-one : OneReply 2 glyph-at.Kinds.ps glyph-at.Kinds.r glyph-at.Reads.Post
+glyph-at-one κs a r o e e′ p q = p ∙ sym q
 
 pub glyph-of-one : OneReply 1 glyph-of.Kinds.ps glyph-of.Kinds.r glyph-of.Reads.Post
 glyph-of-one κs a r o e e′ p q = p ∙ sym q

@@ -39,6 +39,11 @@ glyphBy v own dummy c =
       substitute = not (exists h own c);
     }
 
+-- by the two tables: at a code's own place and at the dummy's
+abbrev pub glyphIn : View → List ℕ → List ℕ → ℕ → Glyph
+glyphIn v pointers widths c =
+    glyphBy v (entryAt pointers widths (c - v .header .min)) (entryAt pointers widths (codes (v .header))) c
+
 -- what the two tables of a font say of a code, and of the dummy: "Code max + 1 is the dummy", its entry is the last, n places past min's
 abbrev pub ownEntry : View → List ℕ → ℕ → Entry
 ownEntry v ws c = entryAt (pointersOf v ws) (widthsOf v ws) (c - v .header .min)

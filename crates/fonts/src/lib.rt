@@ -1,5 +1,7 @@
 // Reading PlainStrike and KernedStrike files: what a file is refused for, and what it shows for a code.
 ghost use mathlib.Core.Path.{_≡_};
+ghost use mathlib.Core.Bool.{cond, _||_};
+ghost use lib.Dec.{ltb};
 ghost use Prim.Native.Nat.{_+_, _-_, _≤_};
 ghost use Rattle.fonts.specs.Strike.{kernedFormat, bodyAt, headerBy, headerOf, bodyOf, viewOf, kerned, codes};
 ghost use Rattle.fonts.specs.Strike.{height, tallest, largest};
@@ -8,7 +10,7 @@ ghost use Rattle.fonts.specs.Entry.{entryAt, present, columnsOf, leftOf,
 ghost use Rattle.fonts.specs.Reading.{badFormat, kernedTooShort, badCodes, badBox, badSizes, lengthsDiffer};
 ghost use Rattle.fonts.specs.Reading.{fallsFrom, badPointers, noDummy};
 ghost use Rattle.fonts.specs.Reading.{headNumber, tableNumber, numberBy, fontNumber, readingOf, readingNumber};
-ghost use Rattle.fonts.specs.Face.{exists, shown, glyphBy, glyphFrom, stepBy, stepOf, dotOf, dotsOf, rowOf};
+ghost use Rattle.fonts.specs.Face.{exists, glyphIn, glyphFrom, stepBy, stepOf, dotOf, dotsOf, rowOf};
 
 // The words at the front of a font file that the reader looks at. A plain file has no box, and its fbbox is 0.
 pub struct Header {
@@ -379,20 +381,30 @@ pub fn head_number(v: View, count: usize) -> u32
     0
 }
 
+// A pointer is smaller than the one before, or some pointer was.
+fn fallen_with(fallen: bool, before: u16, pointer: u16) -> bool
+    ensures { λ r. ⌜ r ≡ (ltb pointer before || fallen) ⌝ }
+{
+    if pointer < before {
+        return true;
+    }
+    fallen
+}
+
+// The loop goes on where a pointer falls, so that the compiler looks at several at once.
 fn falls(pointers: &[u16]) -> bool
     ensures { λ r. ⌜ r ≡ fallsFrom 0 (now (pointers .entry)) ⌝ }
 {
+    let mut fallen = false;
     let mut before = 0;
     let mut i = 0;
     while i < pointers.len() {
         let pointer = pointers[i];
-        if pointer < before {
-            return true;
-        }
+        fallen = fallen_with(fallen, before, pointer);
         before = pointer;
         i += 1;
     }
-    false
+    fallen
 }
 
 fn bad_pointers(b: Body, falls: bool, dummy: Entry) -> bool
@@ -475,14 +487,14 @@ fn exists(h: Header, own: Entry, code: u32) -> bool
     own.present(h)
 }
 
-// Of a code's own entry and the dummy's the one that is drawn.
-fn shown(h: Header, own: Entry, dummy: Entry, code: u32) -> Entry
-    ensures { λ r. ⌜ r ≡ shown h own dummy code ⌝ }
+// Of a code's own entry and the dummy's the one that is drawn. The dummy's is read only where it is.
+fn drawn(h: Header, pointers: &[u16], widths: &[u16], own: Entry, there: bool) -> Entry
+    ensures { λ r. ⌜ r ≡ cond there own (entryAt (now (pointers .entry)) (now (widths .entry)) (codes h)) ⌝ }
 {
-    if exists(h, own, code) {
+    if there {
         return own;
     }
-    dummy
+    Entry::at(pointers, widths, h.codes())
 }
 
 impl Step {
@@ -504,12 +516,14 @@ impl Step {
 }
 
 impl Glyph {
-    // What a font shows for a code, by the code's own entry and the dummy's.
-    pub fn by(v: View, own: Entry, dummy: Entry, code: u32) -> Glyph
-        ensures { λ r. ⌜ r ≡ glyphBy v own dummy code ⌝ }
+    // What a font shows for a code, by its two tables. The pointer table is a part of the file, handed on to what reads an entry of it.
+    pub fn at(v: View, pointers: &[u16], widths: &[u16], code: u32) -> Glyph
+        ensures { λ r. ⌜ r ≡ glyphIn v (now (pointers .entry)) (now (widths .entry)) code ⌝ }
     {
         let h = v.header;
-        let entry = shown(h, own, dummy, code);
+        let own = Entry::at(pointers, widths, h.place(code));
+        let there = exists(h, own, code);
+        let entry = drawn(h, pointers, widths, own, there);
         Glyph {
             bitmap: v.bitmap_at() as u32,
             raster: v.body.raster,
@@ -519,19 +533,15 @@ impl Glyph {
             height: v.body.height() as u32,
             place: entry.place(h),
             advance: entry.advance(h),
-            substitute: !exists(h, own, code),
+            substitute: !there,
         }
     }
 
-    // What a font that has been read shows for a code. The pointer table is a part of the file, handed on to what reads an entry of it.
+    // What a font that has been read shows for a code.
     pub fn of(font: &[u16], v: View, code: u32) -> Glyph
         ensures { λ r. ⌜ r ≡ glyphFrom v (now (font .entry)) code ⌝ }
     {
-        let table = pointers(font, v);
-        let entries = widths(font, v);
-        let own = Entry::at(table, entries, v.header.place(code));
-        let dummy = Entry::at(table, entries, v.header.codes());
-        Glyph::by(v, own, dummy, code)
+        Glyph::at(v, pointers(font, v), widths(font, v), code)
     }
 
     // How it moves the pen.

@@ -4,6 +4,8 @@ use Prim.Native.Nat.{ℕ, suc, _+_, _<_, _≤_}
 use mathlib.Core.Path.{_≡_, sym, ap, ap₂, _∙_}
 use mathlib.Core.List.{List, _∷_}
 use native.Mathlib.Numerals.{add-one}
+use native.Mathlib.Omega.{arith}
+use mathlib.Core.Bool.{Bool, true, false, cond}
 use lib.ListN.{length, getD, drop, drop-of-length-le}
 use lib.Seq.{drop-cons}
 use Rattle.words.specs.declared.Effect.{Effect}
@@ -11,13 +13,32 @@ use Rattle.words.specs.Effect.{cleared, altered}
 use Rattle.words.proofs.Altering.{AllWords, altered-length, altered-idle, altered-twice}
 use Rattle.words.proofs.Clearing.{Carried, altered-over, cleared-over}
 use Rattle.fonts.specs.declared.Glyph.{Glyph}
-use Rattle.fonts.specs.Face.{Face, stepOf}
+use Rattle.fonts.specs.declared.View.{View}
+use Rattle.fonts.specs.Strike.{kerned, bitmapAt, pointersOf, widthsOf}
+use Rattle.fonts.specs.Face.{Face, glyphBy, glyphIn, glyphFrom, faceFrom, stepOf}
 use Rattle.paint.specs.declared.Shape.{Shape}
 use Rattle.paint.specs.declared.Stroke.{Stroke}
 use Rattle.paint.specs.declared.Pen.{Pen}
 use Rattle.paint.specs.Panel.{panelWords}
 use Rattle.paint.specs.Sheet.{Sheet, sheetOf, written, joined}
 use Rattle.paint.specs.Pen.{penAfter, strokeWords, onPanel, pictureEffect, labelEffect}
+
+-- ---- what a font shows for a code, by the tables that were made once for the text
+
+module _ (v : View) (font : List ℕ) where
+  pub found-glyph : (pointers widths : List ℕ) (code : ℕ) {c : ℕ} {g : Glyph} → g ≡ glyphIn v pointers widths code
+      → pointers ≡ pointersOf v font → widths ≡ widthsOf v font → code ≡ c → g ≡ faceFrom v font .glyph c
+  unfolding faceFrom glyphFrom
+  found-glyph pointers widths code shown p w is = shown ∙ (λ t. glyphIn v (p t) (w t) (is t))
+
+  -- its bitmap begins behind the header
+  pub glyph-behind : (c : ℕ) → 1 ≤ faceFrom v font .glyph c .bitmap
+  unfolding faceFrom glyphFrom glyphBy bitmapAt
+  glyph-behind c = by-kind (kerned (v .header))
+    where
+      by-kind : (t : Bool) → 1 ≤ cond t 13 9
+      by-kind true = omega arith
+      by-kind false = omega arith
 
 module _ {f : Effect → Effect} (way : Carried f) (face : Face) (k : Stroke) where
   -- lent words with a text on them, and with one picture

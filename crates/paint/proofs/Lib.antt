@@ -3,7 +3,12 @@ pub mod Along
 pub mod Replies
 pub mod Telling
 pub mod Marks
+pub mod Drawing
+pub mod Reaches
+pub mod Neighbours
+pub mod Edges
 pub mod Rows
+pub mod Reaching
 pub mod Labels
 pub mod Slices
 pub mod Sizes

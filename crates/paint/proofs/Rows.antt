@@ -1,19 +1,18 @@
--- The words of one row of the panel, and the rows of the panel, under a picture.
+-- The rows of the panel under a picture.
 use Prim.Native.Nat.{ℕ, _+_, _-_, _*_, _/_, _%_, _<_, _≤_, min}
 use mathlib.Core.Path.{_≡_, sym, ap, ap₂, _∙_}
 use mathlib.Core.List.{List}
-use lib.ListN.{set}
-use native.Mathlib.Nat.{mul-le-mul, zero-add, add-assoc, add-mul, suc-mul, mul-comm, add-sub-of-le, div-lt-iff-lt-mul, le-div-iff-mul-le}
+use native.Mathlib.Nat.{zero-add, add-mul, suc-mul, mul-comm, add-sub-of-le, div-lt-iff-lt-mul, le-div-iff-mul-le}
 use native.Mathlib.Numerals.{add-one}
 use native.Mathlib.Omega.{arith}
 use Rattle.words.specs.declared.Effect.{Effect}
 use Rattle.words.specs.declared.Mode.{Mode}
 use Rattle.words.specs.declared.Mode.the-variants.{Paint, Erase, Invert}
 use Rattle.words.specs.Word.{word}
-use Rattle.words.specs.Effect.{identity, effectOf, applyTo, altered, OfWords}
+use Rattle.words.specs.Effect.{identity, effectOf, altered, OfWords}
 use Rattle.words.proofs.Effects.{mode-words}
 use Rattle.words.proofs.Rows.{row-of, word-of-row}
-use Rattle.words.proofs.Altering.{AllWords, altered-idle, altered-words, altered-on, altered-step}
+use Rattle.words.proofs.Altering.{AllWords, altered-idle, altered-words, altered-on}
 use Rattle.words.proofs.Clearing.{Carried}
 use Rattle.fonts.specs.declared.Glyph.{Glyph}
 use Rattle.fonts.specs.Face.{dotOf}
@@ -21,11 +20,7 @@ use Rattle.fonts.proofs.Dots.{dot-bit, dot-past}
 use Rattle.paint.specs.declared.Stroke.{Stroke}
 use Rattle.paint.specs.declared.Pen.{Pen}
 use Rattle.paint.specs.Pen.{strokeWords, maskFrom, maskAt, pictureEffect, inRow, onPanel}
-use Rattle.paint.proofs.Marks.{mask-above, mask-under, mask-beside, mask-lt, strip-right-of, strip-left-of}
-
--- a row times the words of a row, for a panel within its limits
-pub rows-before : (row rowwords : ℕ) → row < 256 → rowwords ≤ 128 → row * rowwords ≤ 32640
-rows-before row rowwords h k = mul-le-mul {n₂ = 255} {m₂ = 128} (omega arith) k
+use Rattle.paint.proofs.Marks.{mask-above, mask-under, mask-lt}
 
 -- the effect on a word, by its row and its place in the row
 pub picture-at : (dot : Glyph → ℕ → ℕ → ℕ) (k : Stroke) (pen : Pen) (g : Glyph) (row w : ℕ) → w < k .rowwords
@@ -54,11 +49,7 @@ module _ {f : Effect → Effect} (way : Carried f) (dot : Glyph → ℕ → ℕ 
   unfolding pictureEffect
   unmarked i e = ap f (no-marks (k .mode) _ e) ∙ way .still
 
-  -- a word of a row, by its place in the row
-  unmarked-in-row : (row w : ℕ) → w < k .rowwords → maskFrom dot k pen g row (16 * w) ≡ 0 → effect (row * k .rowwords + w) ≡ identity
-  unmarked-in-row row w h e = ap f (picture-at dot k pen g row w h ∙ no-marks (k .mode) _ e) ∙ way .still
-
-  effect-words : (i : ℕ) → OfWords (effect i)
+  pub effect-words : (i : ℕ) → OfWords (effect i)
   unfolding pictureEffect maskAt
   effect-words i =
       way .words _ (mode-words (k .mode) _ (mask-lt dot k pen g (i / k .rowwords) (16 * (i % k .rowwords)) bits))
@@ -96,30 +87,6 @@ module _ {f : Effect → Effect} (way : Carried f) (dot : Glyph → ℕ → ℕ 
       ∙ sym (altered-on 0 (end * k .rowwords) rest effect lent)
       ∙ ap (λ (n : ℕ). altered 0 n effect lent) whole
 
-  -- of one row, the words left of the strip
-  pub left-idle : (row w : ℕ) → 16 * w ≤ k .strip .from → w ≤ k .rowwords → altered (row * k .rowwords) w effect lent ≡ lent
-  left-idle row w left fits =
-      altered-idle (row * k .rowwords) w effect lent words
-      (λ j less.
-      unmarked-in-row row j (omega arith)
-      (mask-beside dot k pen g row (16 * j) (λ i small. strip-right-of (k .strip) (16 * j + i) (omega arith))))
-
-  -- and those right of it
-  pub right-idle : (row end : ℕ) → k .strip .upto ≤ 16 * end → end ≤ k .rowwords
-      → altered (row * k .rowwords) end effect lent ≡ inRow effect k row lent
-  right-idle row end right fits =
-      let at = row * k .rowwords in
-      let rest = k .rowwords - end in
-      let whole : end + rest ≡ k .rowwords = omega arith in
-      sym
-      (altered-idle (at + end) rest effect (altered at end effect lent) (after-words at end)
-      (λ j less.
-      ap effect (add-assoc at end j)
-      ∙ unmarked-in-row row (end + j) (omega arith)
-      (mask-beside dot k pen g row (16 * (end + j)) (λ i small. strip-left-of (k .strip) (16 * (end + j) + i) (omega arith)))))
-      ∙ sym (altered-on at end rest effect lent)
-      ∙ ap (λ (n : ℕ). altered at n effect lent) whole
-
 -- one row more
 pub row-more : (k : Stroke) (effect : ℕ → Effect) (row : ℕ) (now lent : List ℕ) → now ≡ altered 0 (row * k .rowwords) effect lent
     → inRow effect k row now ≡ altered 0 ((row + 1) * k .rowwords) effect lent
@@ -136,26 +103,7 @@ module _ {f : Effect → Effect} (way : Carried f) (font : List ℕ) (k : Stroke
   abbrev marks : ℕ → Effect
   marks i = f (pictureEffect (dotOf font) k pen g i)
 
-  pub row-turn : (row w value : ℕ) (now : List ℕ) → w < k .rowwords → now ≡ altered (row * k .rowwords) w marks lent
-      → value ≡ applyTo (f (effectOf (k .mode) (maskFrom (dotOf font) k pen g row (16 * w)))) (word now (row * k .rowwords + w))
-      → set now (row * k .rowwords + w) value ≡ altered (row * k .rowwords) (w + 1) marks lent
-  row-turn row w value now here same becomes =
-      let at = row * k .rowwords in
-      altered-step at w value marks now lent same
-      (becomes ∙ ap (λ (e : Effect). applyTo (f e) (word now (at + w))) (sym (picture-at (dotOf font) k pen g row w here)))
-
   module _ (words : AllWords lent) where
-    pub row-begins : (row w : ℕ) → w ≡ k .strip .from / 16 → w ≤ k .rowwords → lent ≡ altered (row * k .rowwords) w marks lent
-    row-begins row w first fits =
-        sym (left-idle way (dotOf font) k pen g (dot-bit font g) (dot-past font g) lent words row w (omega arith) fits)
-
-    pub row-ends : (row w end : ℕ) (now : List ℕ) → w ≡ end → end ≡ (k .strip .upto + 15) / 16 → end ≤ k .rowwords
-        → now ≡ altered (row * k .rowwords) w marks lent → now ≡ inRow marks k row lent
-    row-ends row w end now there last fits same =
-        same
-        ∙ ap (λ (n : ℕ). altered (row * k .rowwords) n marks lent) there
-        ∙ right-idle way (dotOf font) k pen g (dot-bit font g) (dot-past font g) lent words row end (omega arith) fits
-
     pub picture-begins : (row : ℕ) → 0 < k .rowwords → row ≤ k .y - (2048 + g .ascent) → lent ≡ altered 0 (row * k .rowwords) marks lent
     picture-begins row some first =
         sym (above-idle way (dotOf font) k pen g (dot-bit font g) (dot-past font g) lent words row some first)

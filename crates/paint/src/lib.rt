@@ -8,19 +8,23 @@ use words::Effect;
 use words::Mode;
 ghost use mathlib.Core.Path.{_≡_};
 ghost use mathlib.Core.List.{[], _∷_};
-ghost use Prim.Native.Nat.{_+_, _-_, _*_, _/_, _≤_, _<_, min};
+ghost use mathlib.Core.Bool.{true, false, cond};
+ghost use Prim.Native.Nat.{_+_, _-_, _*_, _≤_, _<_, min, max};
+ghost use lib.Dec.{eqb, ltb};
 ghost use lib.ListN.{length};
 ghost use Rattle.words.specs.Lent.{given, after};
 ghost use Rattle.words.specs.Place.{numberAt};
-ghost use Rattle.words.specs.Word.{wordOf, wordsOf};
-ghost use Rattle.words.specs.Effect.{effectOf, cleared};
+ghost use Rattle.words.specs.Word.{wordsOf};
+ghost use Rattle.words.specs.Effect.{effectOf, modeOf, applyTo, cleared};
 ghost use Rattle.fonts.specs.Reading.{fontNumber};
 ghost use Rattle.fonts.specs.Face.{dotOf, faceFrom};
 ghost use Rattle.fontbytes.specs.File.{fileNumber};
 ghost use Rattle.paint.specs.Panel.{panelWords, stripOf, badShape, badPanel};
 ghost use Rattle.paint.specs.Pen.{penAt, penAfter, penAlong, speltSteps, stepsOf, farthest, Starting, Near};
 ghost use Rattle.paint.specs.Pen.{strokeOf, strokeWords, Drawable};
-ghost use Rattle.paint.specs.Pen.{inRow, onPanel, inStrip, dotAlong, maskFrom, pictureEffect, labelEffect};
+ghost use Rattle.paint.specs.Pen.{onPanel, pictureEffect, labelEffect};
+ghost use Rattle.paint.specs.Reach.{shared, fromColumn, uptoColumn, reachOver, reachOf, inFile, narrowIn, twoWords, window};
+ghost use Rattle.paint.specs.Reach.{rowDrawn, rowsDrawn, rowsKept, Nearby, Within};
 ghost use Rattle.paint.specs.Sheet.{sheetOf, lengthsOf};
 ghost use Rattle.paint.specs.declared.Reply.the-variants.{Done};
 ghost use Rattle.paint.specs.Label.{callOf, labelNumber, numberWith, lastPen, finishOf, replyWith, replyOf};
@@ -57,6 +61,23 @@ pub struct Stroke {
     pub strip: Strip,
     pub y: usize,
     pub mode: Mode,
+}
+
+// What a picture reaches of the panel, and where the font has the dots of it.
+pub struct Reach {
+    // How many rows, and in each how many words behind the first.
+    pub rows: usize,
+    pub last: usize,
+    // The columns that it reaches of the first of these words, and of the last.
+    pub head: u16,
+    pub tail: u16,
+    // Where the first is in the panel, and the words from one row to the next.
+    pub at: usize,
+    pub rowwords: usize,
+    // The word of the font in which its dots begin, after so many bits, and the words from one row to the next.
+    pub source: usize,
+    pub shift: usize,
+    pub raster: usize,
 }
 
 // Where the next character goes, in strip columns counted from 2048 to the left of the strip, and the substitutes so far.
@@ -301,75 +322,6 @@ pub fn measure_bytes(font: &[u8], x: i32, text: &[u8]) -> Reply
     }
 }
 
-// 1 for a column of the strip, 0 for any other.
-fn in_strip(strip: Strip, column: usize) -> u16
-    ensures { λ r. ⌜ r ≡ inStrip strip column ⌝ }
-{
-    if column < strip.from {
-        return 0;
-    }
-    if strip.upto <= column {
-        return 0;
-    }
-    1
-}
-
-// Which of sixteen columns, from `start` on, are in the strip.
-fn clip(strip: Strip, start: usize) -> u16
-    requires { ⌜ start ≤ 4096 ⌝ }
-    ensures { λ r. ⌜ r ≡ wordOf (λ j. inStrip strip (start + j)) ⌝ }
-{
-    let mut word: u16 = 0;
-    for j in 0..16 {
-        word = word * 2 + in_strip(strip, start + j);
-    }
-    word
-}
-
-// Sixteen dots of a picture's row, at the places from `base` on, where its left column is at the place `left`.
-fn aligned(font: &[u16], g: Glyph, row: usize, left: usize, base: usize) -> u16
-    requires { ⌜ base ≤ 8192 ⌝ }
-    ensures { λ r. ⌜ r ≡ wordOf (λ j. dotAlong (dotOf (given font) g row) left (base + j)) ⌝ }
-{
-    if left <= base {
-        return g.dots(font, row, (base - left) as u32);
-    }
-    let shift = left - base;
-    if 16 <= shift {
-        return 0;
-    }
-    g.dots(font, row, 0) >> shift
-}
-
-// The marks of a picture on sixteen columns of a row of the panel, from `start` on. Where it has no dot there, no column is tested.
-fn mask(font: &[u16], g: Glyph, k: Stroke, pen: Pen, row: usize, start: usize) -> u16
-    requires { ⌜ (pen .place ≤ farthest) × (row ≤ 4096) ⌝ }
-    requires { ⌜ (k .strip .from ≤ 4096) × (start ≤ 4096) ⌝ }
-    ensures { λ r. ⌜ r ≡ maskFrom (dotOf (given font)) k pen g row start ⌝ }
-{
-    let down = row + 2048 + g.ascent as usize;
-    if down < k.y {
-        return 0;
-    }
-    let left = pen.place + g.place as usize;
-    let base = start + 4096 - k.strip.from;
-    let dots = aligned(font, g, down - k.y, left, base);
-    if dots == 0 {
-        return 0;
-    }
-    dots & clip(k.strip, start)
-}
-
-// What a picture does to sixteen columns of a row of the panel, from `start` on.
-fn effect(font: &[u16], g: Glyph, k: Stroke, pen: Pen, row: usize, start: usize) -> Effect
-    requires { ⌜ (pen .place ≤ farthest) × (row ≤ 4096) ⌝ }
-    requires { ⌜ (k .strip .from ≤ 4096) × (start ≤ 4096) ⌝ }
-    ensures { λ r. ⌜ r ≡ effectOf (k .mode) (maskFrom (dotOf (given font)) k pen g row start) ⌝ }
-{
-    let mode = k.mode;
-    Effect::of(mode, mask(font, g, k, pen, row, start))
-}
-
 // The first row of the panel that a picture reaches.
 fn first_row(g: Glyph, k: Stroke) -> usize
     ensures { λ r. ⌜ r ≡ min (k .rows) (k .y - (2048 + g .ascent)) ⌝ }
@@ -394,47 +346,293 @@ fn end_row(g: Glyph, k: Stroke) -> usize
     words::least(k.rows, below - above)
 }
 
-// The first word of a row that the strip reaches, and the word behind the last.
-fn first_word(k: Stroke) -> usize
-    ensures { λ r. ⌜ r ≡ k .strip .from / 16 ⌝ }
+// The greater of two numbers.
+fn greatest(a: usize, b: usize) -> usize
+    ensures { λ r. ⌜ r ≡ max a b ⌝ }
 {
-    k.strip.from / 16
+    if a < b { b } else { a }
 }
 
-fn end_word(k: Stroke) -> usize
-    requires { ⌜ k .strip .upto ≤ 4096 ⌝ }
-    ensures { λ r. ⌜ r ≡ (k .strip .upto + 15) / 16 ⌝ }
+// The columns that a picture shares with its strip, where its left column is at `left`: all counted from 4096 left of the panel.
+fn shared_columns(g: Glyph, k: Stroke, left: usize) -> Strip
+    requires { ⌜ (left ≤ 4299300000) × (k .strip .from ≤ 2048) × (k .strip .upto ≤ 2048) ⌝ }
+    ensures { λ r. ⌜ r ≡ shared g k left ⌝ }
 {
-    (k.strip.upto + 15) / 16
-}
-
-// A picture's marks on a row of the panel, on the words that the strip reaches.
-fn paint_row(font: &[u16], g: Glyph, k: Stroke, pen: Pen, row: usize, panel: &mut [u16])
-    requires { ⌜ Drawable k (length (now panel)) ⌝ }
-    requires { ⌜ (pen .place ≤ farthest) × (row < k .rows) ⌝ }
-    ensures { λ r. ⌜ after panel ≡ inRow (pictureEffect (dotOf (given font)) k pen g) k row (given panel) ⌝ }
-{
-    let at = row * k.rowwords;
-    let end = end_word(k);
-    let mut w = first_word(k);
-    while w < end {
-        panel[at + w] = effect(font, g, k, pen, row, 16 * w).apply(panel[at + w]);
-        w += 1;
+    Strip {
+        from: greatest(left, k.strip.from + 4096),
+        upto: words::least(left + g.columns as usize, k.strip.upto + 4096),
     }
 }
 
-// A picture's marks on the panel, on the rows that it reaches.
-fn paint_picture(font: &[u16], g: Glyph, k: Stroke, pen: Pen, panel: &mut [u16])
-    requires { ⌜ Drawable k (length (now panel)) ⌝ }
-    requires { ⌜ pen .place ≤ farthest ⌝ }
-    ensures { λ r. ⌜ after panel ≡ onPanel (pictureEffect (dotOf (given font)) k pen g) k (given panel) ⌝ }
+// The columns of a word from the one of this place on.
+fn from_column(place: usize) -> u16
+    ensures { λ r. ⌜ r ≡ fromColumn place ⌝ }
 {
-    let end = end_row(g, k);
-    let mut row = first_row(g, k);
-    while row < end {
-        paint_row(font, g, k, pen, row, panel);
+    0xFFFF >> (place % 16)
+}
+
+// The columns of a word up to the one of this place.
+fn upto_column(place: usize) -> u16
+    ensures { λ r. ⌜ r ≡ uptoColumn place ⌝ }
+{
+    0xFFFF - (0x7FFF >> (place % 16))
+}
+
+impl Reach {
+    const NOTHING: Reach = Reach {
+        rows: 0,
+        last: 0,
+        head: 0,
+        tail: 0,
+        at: 0,
+        rowwords: 0,
+        source: 0,
+        shift: 0,
+        raster: 0,
+    };
+
+    // What a picture reaches that shares these columns with its strip.
+    fn over(g: Glyph, k: Stroke, left: usize, columns: Strip) -> Reach
+        requires { ⌜ (k .rows ≤ 256) × (k .rowwords ≤ 128) × (k .y ≤ 65536) × (1 ≤ g .bitmap) ⌝ }
+        requires { ⌜ (left ≤ columns .from) × (4096 ≤ columns .from) × (columns .from < columns .upto) × (columns .upto ≤ 8192) ⌝ }
+        ensures { λ r. ⌜ r ≡ reachOver g k left columns ⌝ }
+        ensures near { λ r. ⌜ Nearby r ⌝ }
+    {
+        let row = first_row(g, k);
+        let first = columns.from / 16;
+        let end = columns.upto - 1;
+        let bit = 16 * (g.bitmap as usize + first) + g.first as usize - left;
+        let raster = g.raster as usize;
+        Reach {
+            rows: words::past(end_row(g, k), row),
+            last: end / 16 - first,
+            head: from_column(columns.from),
+            tail: upto_column(end),
+            at: row * k.rowwords + first - 256,
+            rowwords: k.rowwords,
+            source: bit / 16 + words::past(row + 2048 + g.ascent as usize, k.y) * raster,
+            shift: bit % 16,
+            raster,
+        }
+    }
+
+    fn of(g: Glyph, k: Stroke, pen: Pen) -> Reach
+        requires { ⌜ (k .rows ≤ 256) × (k .rowwords ≤ 128) × (k .y ≤ 65536) × (1 ≤ g .bitmap) ⌝ }
+        requires { ⌜ (k .strip .from ≤ 2048) × (k .strip .upto ≤ 2048) × (pen .place ≤ farthest) ⌝ }
+        ensures { λ r. ⌜ r ≡ reachOf g k pen ⌝ }
+        ensures near { λ r. ⌜ Nearby r ⌝ }
+    {
+        let left = pen.place + g.place as usize + k.strip.from;
+        let columns = shared_columns(g, k, left);
+        if columns.from < columns.upto {
+            return Reach::over(g, k, left, columns);
+        }
+        Reach::NOTHING
+    }
+
+    // The words of the font that have its dots, and their neighbours, are all there.
+    fn in_file(self, words: usize) -> bool
+        requires { ⌜ (1 ≤ self .rows) × (self .rows ≤ 256) × (self .last ≤ 255) ⌝ }
+        requires { ⌜ (self .source ≤ 17179869184) × (self .raster ≤ 65535) ⌝ }
+        ensures { λ r. ⌜ r ≡ inFile self words ⌝ }
+    {
+        self.source + (self.rows - 1) * self.raster + self.last + 1 < words
+    }
+
+    // So, and in one word a row.
+    fn narrow(self, words: usize) -> bool
+        requires { ⌜ (1 ≤ self .rows) × (self .rows ≤ 256) × (self .last ≤ 255) ⌝ }
+        requires { ⌜ (self .source ≤ 17179869184) × (self .raster ≤ 65535) ⌝ }
+        ensures { λ r. ⌜ r ≡ narrowIn self words ⌝ }
+    {
+        if self.last != 0 {
+            return false;
+        }
+        self.in_file(words)
+    }
+}
+
+// Sixteen bits of two neighbouring words, from a bit of the first on. They are turned as a ring, with the first word last: so they lie in
+// memory, and the compiler makes one load and one rotation of it.
+fn two_words(high: u16, low: u16, shift: usize) -> u16
+    requires { ⌜ shift < 16 ⌝ }
+    ensures { λ r. ⌜ r ≡ twoWords high low shift ⌝ }
+{
+    let ring = low as u32 * 65536 + high as u32;
+    let turn = shift as u32;
+    (((ring << turn) | (ring >> ((32 - turn) % 32))) % 65536) as u16
+}
+
+// Sixteen bits of a font, from a bit of word i on; there is none past its end.
+fn window(font: &[u16], i: usize, shift: usize) -> u16
+    requires { ⌜ (i ≤ 34359738368) × (shift < 16) ⌝ }
+    ensures { λ r. ⌜ r ≡ window (given font) i shift ⌝ }
+{
+    if i + 1 < font.len() {
+        return two_words(font[i], font[i + 1], shift);
+    }
+    two_words(words::word_at(font, i), 0, shift)
+}
+
+// The number of a mode. The loops take it by that, as a plain number.
+fn mode_number(mode: Mode) -> u32
+    ensures { λ r. ⌜ modeOf r ≡ mode ⌝ }
+{
+    match mode {
+        Mode::Paint => 0,
+        Mode::Erase => 1,
+        Mode::Invert => 2,
+    }
+}
+
+// The dots of a mask that a mode clears: all, but in Invert none.
+fn cleared_dots(mode: u32, mask: u16) -> u16
+    ensures { λ r. ⌜ r ≡ cond (ltb 1 mode) 0 mask ⌝ }
+{
+    if 1 < mode {
+        return 0;
+    }
+    mask
+}
+
+// The dots of a mask that a mode then flips: all, but in Erase none.
+fn flipped_dots(mode: u32, mask: u16) -> u16
+    ensures { λ r. ⌜ r ≡ cond (eqb mode 1) 0 mask ⌝ }
+{
+    if mode == 1 {
+        return 0;
+    }
+    mask
+}
+
+// A word under the dots of a mask.
+fn under(mode: u32, mask: u16, word: u16) -> u16
+    ensures { λ r. ⌜ r ≡ applyTo (effectOf (modeOf mode) mask) word ⌝ }
+{
+    let kept = 0xFFFF - cleared_dots(mode, mask);
+    Effect::new(kept, flipped_dots(mode, mask)).apply(word)
+}
+
+// A picture in one word a row, on the rows that it reaches.
+fn draw_narrow(font: &[u16], r: Reach, mode: u32, lent: &mut [u16])
+    requires { ⌜ Within r (length (now lent)) ⌝ }
+    requires { ⌜ narrowIn r (length (now font)) ≡ true ⌝ }
+    ensures { λ o. ⌜ after lent ≡ rowsDrawn (given font) r (modeOf mode) (r .rows) (given lent) ⌝ }
+{
+    let mask = r.head & r.tail;
+    let mut from = r.source;
+    let mut at = r.at;
+    let mut row = 0;
+    while row < r.rows {
+        let dots = two_words(font[from], font[from + 1], r.shift);
+        lent[at] = under(mode, dots & mask, lent[at]);
+        from += r.raster;
+        at += r.rowwords;
         row += 1;
     }
+}
+
+// One row of a picture in two words a row or more: those before the last, and the last.
+fn draw_line(font: &[u16], r: Reach, mode: u32, from: usize, at: usize, lent: &mut [u16])
+    requires { ⌜ (at + r .last < length (now lent)) × (at ≤ 98303) × (r .last ≤ 255) × (1 ≤ r .last) ⌝ }
+    requires { ⌜ (from ≤ 17196646400) × (r .shift < 16) × (from + r .last + 1 < length (now font)) ⌝ }
+    ensures { λ o. ⌜ after lent ≡ rowDrawn (given font) r (modeOf mode) from at (r .last + 1) (given lent) ⌝ }
+{
+    let mut mask = r.head;
+    let mut w = 0;
+    while w < r.last {
+        let dots = two_words(font[from + w], font[from + w + 1], r.shift);
+        lent[at + w] = under(mode, dots & mask, lent[at + w]);
+        mask = 0xFFFF;
+        w += 1;
+    }
+    let dots = two_words(font[from + w], font[from + w + 1], r.shift);
+    lent[at + w] = under(mode, dots & r.tail, lent[at + w]);
+}
+
+// A picture in two words a row or more, on the rows that it reaches.
+fn draw_wide(font: &[u16], r: Reach, mode: u32, lent: &mut [u16])
+    requires { ⌜ Within r (length (now lent)) × (1 ≤ r .last) ⌝ }
+    requires { ⌜ inFile r (length (now font)) ≡ true ⌝ }
+    ensures { λ o. ⌜ after lent ≡ rowsDrawn (given font) r (modeOf mode) (r .rows) (given lent) ⌝ }
+{
+    let mut from = r.source;
+    let mut at = r.at;
+    let mut row = 0;
+    while row < r.rows {
+        draw_line(font, r, mode, from, at, lent);
+        from += r.raster;
+        at += r.rowwords;
+        row += 1;
+    }
+}
+
+// One row of a picture that does not lie in the file, as no font has that was read: no dot of it is past the end.
+fn draw_row(font: &[u16], r: Reach, mode: u32, from: usize, at: usize, lent: &mut [u16])
+    requires { ⌜ (at + r .last < length (now lent)) × (at ≤ 98303) × (r .last ≤ 255) ⌝ }
+    requires { ⌜ (from ≤ 17196646400) × (r .shift < 16) ⌝ }
+    ensures { λ o. ⌜ after lent ≡ rowDrawn (given font) r (modeOf mode) from at (r .last + 1) (given lent) ⌝ }
+{
+    let mut mask = r.head;
+    let mut w = 0;
+    while w < r.last {
+        lent[at + w] = under(mode, window(font, from + w, r.shift) & mask, lent[at + w]);
+        mask = 0xFFFF;
+        w += 1;
+    }
+    lent[at + w] = under(
+        mode,
+        window(font, from + w, r.shift) & mask & r.tail,
+        lent[at + w],
+    );
+}
+
+// Such a picture, on the rows that it reaches.
+fn draw_rows(font: &[u16], r: Reach, mode: u32, lent: &mut [u16])
+    requires { ⌜ Within r (length (now lent)) ⌝ }
+    ensures { λ o. ⌜ after lent ≡ rowsDrawn (given font) r (modeOf mode) (r .rows) (given lent) ⌝ }
+{
+    let mut from = r.source;
+    let mut at = r.at;
+    let mut row = 0;
+    while row < r.rows {
+        draw_row(font, r, mode, from, at, lent);
+        from += r.raster;
+        at += r.rowwords;
+        row += 1;
+    }
+}
+
+// A picture that is not in one word a row, painted; or one that does not lie in the file.
+fn paint_wide(font: &[u16], r: Reach, mode: u32, panel: &mut [u16])
+    requires { ⌜ Within r (length (now panel)) ⌝ }
+    requires { ⌜ narrowIn r (length (now font)) ≡ false ⌝ }
+    ensures { λ o. ⌜ after panel ≡ rowsDrawn (given font) r (modeOf mode) (r .rows) (given panel) ⌝ }
+{
+    if r.in_file(font.len()) {
+        draw_wide(font, r, mode, panel);
+        return;
+    }
+    draw_rows(font, r, mode, panel);
+}
+
+// A picture's marks on the panel.
+fn paint_picture(font: &[u16], g: Glyph, k: Stroke, pen: Pen, panel: &mut [u16])
+    requires { ⌜ Drawable k (length (now panel)) ⌝ }
+    requires { ⌜ (pen .place ≤ farthest) × (1 ≤ g .bitmap) ⌝ }
+    ensures { λ r. ⌜ after panel ≡ onPanel (pictureEffect (dotOf (given font)) k pen g) k (given panel) ⌝ }
+{
+    let reach = Reach::of(g, k, pen);
+    if reach.rows == 0 {
+        return;
+    }
+    let own = k.mode;
+    let mode = mode_number(own);
+    if reach.narrow(font.len()) {
+        draw_narrow(font, reach, mode, panel);
+        return;
+    }
+    paint_wide(font, reach, mode, panel);
 }
 
 // The characters of a text, in order, on the panel. Hands back the pen after the last.
@@ -446,10 +644,12 @@ fn paint_text(font: &[u16], v: View, k: Stroke, start: Pen, text: &[u8], panel: 
     ensures near { λ r. ⌜ Near r ⌝ }
     ensures panel { λ r. ⌜ after panel ≡ onPanel (labelEffect (faceFrom v (given font)) k start (given text)) k (given panel) ⌝ }
 {
+    let pointers = fonts::pointers(font, v);
+    let widths = fonts::widths(font, v);
     let mut pen = start;
     let mut i = 0;
     while i < text.len() {
-        let g = Glyph::of(font, v, code(text[i]));
+        let g = Glyph::at(v, pointers, widths, code(text[i]));
         paint_picture(font, g, k, pen, panel);
         pen = pen.after(g.step());
         i += 1;
@@ -457,48 +657,60 @@ fn paint_text(font: &[u16], v: View, k: Stroke, start: Pen, text: &[u8], panel: 
     pen
 }
 
-// A picture's effect on a row, joined onto a sheet, on the words that the strip reaches.
-fn join_row(
-    font: &[u16],
-    g: Glyph,
-    k: Stroke,
-    pen: Pen,
-    row: usize,
-    keep: &mut [u16],
-    flip: &mut [u16],
-)
-    requires { ⌜ Drawable k (length (now keep)) ⌝ }
-    requires { ⌜ strokeWords k ≤ length (now flip) ⌝ }
-    requires { ⌜ (pen .place ≤ farthest) × (row < k .rows) ⌝ }
-    ensures keep { λ r. ⌜ after keep ≡ inRow (cleared (pictureEffect (dotOf (given font)) k pen g)) k row (given keep) ⌝ }
-    ensures flip { λ r. ⌜ after flip ≡ inRow (pictureEffect (dotOf (given font)) k pen g) k row (given flip) ⌝ }
+// A picture in one word a row, joined onto a sheet: what is painted or erased is no longer kept, and flip changes as a panel does.
+fn join_narrow(font: &[u16], r: Reach, mode: u32, keep: &mut [u16], flip: &mut [u16])
+    requires { ⌜ Within r (length (now keep)) ⌝ }
+    requires { ⌜ Within r (length (now flip)) ⌝ }
+    requires { ⌜ narrowIn r (length (now font)) ≡ true ⌝ }
+    ensures keep { λ o. ⌜ after keep ≡ rowsKept (given font) r (modeOf mode) (given keep) ⌝ }
+    ensures flip { λ o. ⌜ after flip ≡ rowsDrawn (given font) r (modeOf mode) (r .rows) (given flip) ⌝ }
 {
-    let at = row * k.rowwords;
-    let end = end_word(k);
-    let mut w = first_word(k);
-    while w < end {
-        let then = effect(font, g, k, pen, row, 16 * w);
-        let joined = Effect::new(keep[at + w], flip[at + w]).join(then);
-        keep[at + w] = joined.keep;
-        flip[at + w] = joined.flip;
-        w += 1;
+    draw_narrow(font, r, mode, flip);
+    if mode < 2 {
+        draw_narrow(font, r, 1, keep);
     }
 }
 
-// A picture's effect joined onto a sheet, on the rows that it reaches.
+// Any other picture, joined so.
+fn join_wide(font: &[u16], r: Reach, mode: u32, keep: &mut [u16], flip: &mut [u16])
+    requires { ⌜ Within r (length (now keep)) ⌝ }
+    requires { ⌜ Within r (length (now flip)) ⌝ }
+    requires { ⌜ narrowIn r (length (now font)) ≡ false ⌝ }
+    ensures keep { λ o. ⌜ after keep ≡ rowsKept (given font) r (modeOf mode) (given keep) ⌝ }
+    ensures flip { λ o. ⌜ after flip ≡ rowsDrawn (given font) r (modeOf mode) (r .rows) (given flip) ⌝ }
+{
+    if r.in_file(font.len()) {
+        draw_wide(font, r, mode, flip);
+        if mode < 2 {
+            draw_wide(font, r, 1, keep);
+        }
+        return;
+    }
+    draw_rows(font, r, mode, flip);
+    if mode < 2 {
+        draw_rows(font, r, 1, keep);
+    }
+}
+
+// A picture's effect joined onto a sheet.
 fn join_picture(font: &[u16], g: Glyph, k: Stroke, pen: Pen, keep: &mut [u16], flip: &mut [u16])
     requires { ⌜ Drawable k (length (now keep)) ⌝ }
     requires { ⌜ strokeWords k ≤ length (now flip) ⌝ }
-    requires { ⌜ pen .place ≤ farthest ⌝ }
+    requires { ⌜ (pen .place ≤ farthest) × (1 ≤ g .bitmap) ⌝ }
     ensures keep { λ r. ⌜ after keep ≡ onPanel (cleared (pictureEffect (dotOf (given font)) k pen g)) k (given keep) ⌝ }
     ensures flip { λ r. ⌜ after flip ≡ onPanel (pictureEffect (dotOf (given font)) k pen g) k (given flip) ⌝ }
 {
-    let end = end_row(g, k);
-    let mut row = first_row(g, k);
-    while row < end {
-        join_row(font, g, k, pen, row, keep, flip);
-        row += 1;
+    let reach = Reach::of(g, k, pen);
+    if reach.rows == 0 {
+        return;
     }
+    let own = k.mode;
+    let mode = mode_number(own);
+    if reach.narrow(font.len()) {
+        join_narrow(font, reach, mode, keep, flip);
+        return;
+    }
+    join_wide(font, reach, mode, keep, flip);
 }
 
 // The characters of a text, in order, joined onto a sheet. Hands back the pen after the last.
@@ -520,10 +732,12 @@ fn join_text(
     ensures keep { λ r. ⌜ after keep ≡ onPanel (cleared (labelEffect (faceFrom v (given font)) k start (given text))) k (given keep) ⌝ }
     ensures flip { λ r. ⌜ after flip ≡ onPanel (labelEffect (faceFrom v (given font)) k start (given text)) k (given flip) ⌝ }
 {
+    let pointers = fonts::pointers(font, v);
+    let widths = fonts::widths(font, v);
     let mut pen = start;
     let mut i = 0;
     while i < text.len() {
-        let g = Glyph::of(font, v, code(text[i]));
+        let g = Glyph::at(v, pointers, widths, code(text[i]));
         join_picture(font, g, k, pen, keep, flip);
         pen = pen.after(g.step());
         i += 1;

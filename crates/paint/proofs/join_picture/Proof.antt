@@ -1,45 +1,32 @@
--- `paint::join_picture` meets its contract. The invariant: the rows so far, of keep and of flip, are altered by the picture, which leaves
--- the rows above it and below it alone.
+-- `paint::join_picture` meets its contract: what the loops draw of the picture's reach is the sheet under the picture. Its effect alters
+-- flip as it alters a panel, and Paint and Erase alter keep as Erase alters a panel; Invert leaves it.
 -- Assumes nothing.
-use Prim.Native.Nat.{ℕ, _+_, _-_, _*_, _<_, _≤_}
-use mathlib.Core.Path.{_≡_, refl, ap, _∙_}
+use Prim.Native.Nat.{ℕ}
+use mathlib.Core.Path.{_≡_, refl, sym, ap, _∙_}
 use mathlib.Core.List.{List}
-use native.Mathlib.Omega.{arith}
 use denote.Ref.{now}
 use lib.ListN.{length}
-use Rattle.words.specs.Effect.{cleared, altered}
-use Rattle.words.proofs.Altering.{AllWords, altered-length}
-use Rattle.words.proofs.Clearing.{whole, clears}
+use Rattle.words.proofs.Altering.{AllWords}
+use Rattle.words.specs.declared.Mode.{Mode}
 use Rattle.fonts.specs.declared.Glyph.{Glyph}
 use Rattle.fonts.specs.Face.{dotOf}
+use Rattle.words.specs.Effect.{cleared}
 use Rattle.paint.specs.declared.Stroke.{Stroke}
 use Rattle.paint.specs.declared.Pen.{Pen}
-use Rattle.paint.specs.Pen.{pictureEffect}
-use Rattle.paint.proofs.Accepted.{same-room}
-use Rattle.paint.proofs.Rows.{picture-begins, row-more, picture-ends}
+use Rattle.paint.specs.declared.Reach.{Reach}
+use Rattle.paint.specs.Pen.{pictureEffect, onPanel, Drawable}
+use Rattle.paint.specs.Reach.{rowsDrawn, rowsKept, Within}
+use Rattle.paint.proofs.Drawing.{nothing-drawn, nothing-kept}
+use Rattle.paint.proofs.Reaches.{within}
+use Rattle.paint.proofs.Reaching.{flip-drawn, keep-drawn}
 use borrow.Author.Needs.{needs}
 use Rattle.paint.proofs.join_picture.Statement.{statement}
 use Rattle.paint.proofs.join_picture.Tie as tie
 
-abbrev Inv-loop : tie.InvT-loop
-Inv-loop font g k pen keep₀ flip₀ end row₀ keep flip row =
-    (row ≤ end) × (length keep ≡ length keep₀) × (length flip ≡ length flip₀)
-    × (keep ≡ altered 0 (row * k .rowwords) (cleared (pictureEffect (dotOf font) k pen g)) keep₀)
-    × (flip ≡ altered 0 (row * k .rowwords) (pictureEffect (dotOf font) k pen g) flip₀)
-
-abbrev μ-loop : tie.MeasureT-loop
-μ-loop font g k pen keep₀ flip₀ end row₀ keep flip row = end - row
-
-end-row-requires : tie.Need-end-row-requires Inv-loop μ-loop
-end-row-requires c κs = omega arith
-
-first-row-requires : tie.Need-first-row-requires Inv-loop μ-loop
-first-row-requires c κs = search needs
-
--- the call, from the moment when the loop begins
-module _ (c : tie.After-first-row Inv-loop μ-loop) where
-  abbrev call : tie.Start Inv-loop μ-loop
-  call = c .before .before .before .before .before
+-- the call, from the moment when the reach is known
+module _ (c : tie.After-of) where
+  abbrev call : tie.Start
+  call = c .before .before .before .before
 
   abbrev font : List ℕ
   font = now (call .args .font)
@@ -59,80 +46,113 @@ module _ (c : tie.After-first-row Inv-loop μ-loop) where
   abbrev flip : List ℕ
   flip = now (call .args .flip)
 
-  keep-words : AllWords keep
-  keep-words i = c .before .before .before .slice-known .given i .fits
+  abbrev reach : Reach
+  reach = c .of .result
 
-  flip-words : AllWords flip
-  flip-words i = c .before .before .slice-known2 .given i .fits
+  -- what can be drawn on keep can be drawn on flip
+  flip-room : Drawable k (length flip)
+  flip-room = let d = call .pre .0 in (d .0, d .1, d .2, d .3, d .4, d .5, call .pre .1 .0)
 
-loop-holds : tie.Need-loop-holds Inv-loop μ-loop
-loop-holds c = (
-  omega arith,
-  refl,
-  refl,
-  picture-begins clears (font c) (k c) (pen c) (g c) (keep c) (keep-words c) _ (omega arith) (omega arith),
-  picture-begins whole (font c) (k c) (pen c) (g c) (flip c) (flip-words c) _ (omega arith) (omega arith),
-)
+  font-words : AllWords font
+  font-words i = c .before .before .before .shared-slice-known .given i .fits
 
-join-row-requires : tie.Need-join-row-requires Inv-loop μ-loop
-join-row-requires c κs =
-    let b = c .before .before .before in
-    let s = b .before in
-    let drawable = same-room (k s) _ (length (b .loop .keep)) (b .loop .inv .1) (call s .pre .0) in
-    (drawable, (omega arith, (omega arith, omega arith)))
+  kept : (after : List ℕ) (mode : Mode) → mode ≡ k .mode → after ≡ rowsKept font reach mode keep
+      → after ≡ onPanel (cleared (pictureEffect (dotOf font) k pen g)) k keep
+  kept after mode is drew =
+      drew
+      ∙ (λ t. rowsKept font (c .of .ensures .0 t) (is t) keep)
+      ∙ keep-drawn font k pen g font-words (call .pre .1 .1 .1) keep (λ i. c .before .before .slice-known .given i .fits) (call .pre .0)
 
-add-row : tie.Need-add-row Inv-loop μ-loop
-add-row c = omega arith
+  flipped : (after : List ℕ) (mode : Mode) → mode ≡ k .mode → after ≡ rowsDrawn font reach mode (reach .rows) flip
+      → after ≡ onPanel (pictureEffect (dotOf font) k pen g) k flip
+  flipped after mode is drew =
+      drew
+      ∙ (λ t. rowsDrawn font (c .of .ensures .0 t) (is t) (c .of .ensures .0 t .rows) flip)
+      ∙ flip-drawn font k pen g font-words (call .pre .1 .1 .1) flip (λ i. c .before .slice-known2 .given i .fits) flip-room
 
-loop-less : tie.Need-loop-less Inv-loop μ-loop
-loop-less c = omega arith
+  lies : (room : ℕ) → Drawable k room → (reach .rows ≡ 0 → ⊥) → Within reach room
+  lies room drawable some = within g k pen room drawable reach (c .of .ensures .0) some (c .of .ensures .1)
 
-loop-again : tie.Need-loop-again Inv-loop μ-loop
-loop-again c =
-    let drew = c .before .before .before .before in
-    let b = drew .before .before .before .before in
-    let s = b .before in
-    let row = b .loop .row in
-    let effects = pictureEffect (dotOf (font s)) (k s) (pen s) (g s) in
-    let kept = drew .join-row .ensures .0 ∙ row-more (k s) (cleared effects) row (b .loop .keep) (keep s) (b .loop .inv .3) in
-    let flipped = drew .join-row .ensures .1 ∙ row-more (k s) effects row (b .loop .flip) (flip s) (b .loop .inv .4) in (
-      omega arith,
-      ap length kept ∙ altered-length 0 (cleared effects) (keep s) ((row + 1) * k s .rowwords),
-      ap length flipped ∙ altered-length 0 effects (flip s) ((row + 1) * k s .rowwords),
-      kept,
-      flipped,
-    )
+-- and from the moment when the mode's number is, and there is a row
+module _ (m : tie.After-mode-number) where
+  abbrev known : tie.After-of
+  known = m .before .before .before
 
-same-length : tie.Need-same-length Inv-loop μ-loop
-same-length c = c .before .loop .inv .1
+  lies-keep : Within (reach known) (length (keep known))
+  lies-keep = lies known _ (call known .pre .0) (m .before .if1 .left)
 
-same-length-2 : tie.Need-same-length-2 Inv-loop μ-loop
-same-length-2 c = c .before .loop .inv .2
+  lies-flip : Within (reach known) (length (flip known))
+  lies-flip = lies known _ (flip-room known) (m .before .if1 .left)
 
-returns : tie.Need-returns Inv-loop μ-loop
+of-requires : tie.Need-of-requires
+of-requires c κs = search needs
+
+returns : tie.Need-returns
 returns c =
-    let b = c .before in
-    let s = b .before in
-    let end = s .before .end-row in
-    let some : 0 < k s .rowwords = omega arith in
-    let there : b .loop .row ≡ end .result = omega arith in (
-      picture-ends clears (font s) (k s) (pen s) (g s) (keep s) (keep-words s) _ _ _ some there (end .ensures) (b .loop .inv .3),
-      picture-ends whole (font s) (k s) (pen s) (g s) (flip s) (flip-words s) _ _ _ some there (end .ensures) (b .loop .inv .4),
+    let r = c .before .before in
+    let mode = k r .mode in
+    let none = ap (λ (n : ℕ). rowsDrawn (font r) (reach r) mode n (flip r)) (sym (c .if1 .taken)) in (
+      kept r _ mode refl (nothing-kept (font r) (reach r) mode (keep r) (c .if1 .taken)),
+      flipped r _ mode refl (nothing-drawn (font r) (reach r) mode (flip r) ∙ none),
     )
+
+mode-number-requires : tie.Need-mode-number-requires
+mode-number-requires c κs = search needs
+
+narrow-requires : tie.Need-narrow-requires
+narrow-requires c κs = let inside = lies-keep c in ((inside .0, inside .1, inside .2), (inside .5, inside .6))
+
+join-narrow-requires : tie.Need-join-narrow-requires
+join-narrow-requires c κs =
+    let test = c .before .before .before in
+    let m = test .before in
+    (lies-keep m, (lies-flip m, sym (test .narrow .ensures) ∙ c .before .before .if2 .taken))
+
+same-length : tie.Need-same-length
+same-length c = search needs
+
+same-length-2 : tie.Need-same-length-2
+same-length-2 c = search needs
+
+returns-2 : tie.Need-returns-2
+returns-2 c =
+    let drew = c .before .before .before .before in
+    let m = drew .before .before .before .before .before in
+    let is = m .mode-number .ensures in
+    (kept (known m) _ _ is (drew .join-narrow .ensures .0), flipped (known m) _ _ is (drew .join-narrow .ensures .1))
+
+join-wide-requires : tie.Need-join-wide-requires
+join-wide-requires c κs =
+    let test = c .before .before .before in
+    let m = test .before in
+    (lies-keep m, (lies-flip m, sym (test .narrow .ensures) ∙ c .before .before .if2 .left))
+
+same-length-3 : tie.Need-same-length-3
+same-length-3 c = search needs
+
+same-length-4 : tie.Need-same-length-4
+same-length-4 c = search needs
+
+returns-3 : tie.Need-returns-3
+returns-3 c =
+    let drew = c .before .before .before .before in
+    let m = drew .before .before .before .before .before in
+    let is = m .mode-number .ensures in
+    (kept (known m) _ _ is (drew .join-wide .ensures .0), flipped (known m) _ _ is (drew .join-wide .ensures .1))
 
 pub join-picture-spec : {M : Type 1} → statement M
 join-picture-spec =
     tie.close
     (tie.spec
-    Inv-loop
-    μ-loop
-    end-row-requires
-    first-row-requires
-    loop-holds
-    join-row-requires
-    add-row
-    loop-less
-    loop-again
+    of-requires
+    returns
+    mode-number-requires
+    narrow-requires
+    join-narrow-requires
     same-length
     same-length-2
-    returns)
+    returns-2
+    join-wide-requires
+    same-length-3
+    same-length-4
+    returns-3)

@@ -1,44 +1,29 @@
--- `paint::paint_picture` meets its contract. The invariant: the rows so far are altered by the picture, which leaves the rows above it and
--- below it alone.
+-- `paint::paint_picture` meets its contract: what the loops draw of the picture's reach is the panel under the picture.
 -- Assumes nothing.
-use Prim.Native.Nat.{ℕ, _+_, _-_, _*_, _≤_}
-use mathlib.Core.Path.{_≡_, refl, ap, _∙_}
+use Prim.Native.Nat.{ℕ}
+use mathlib.Core.Path.{_≡_, refl, sym, ap, _∙_}
 use mathlib.Core.List.{List}
-use native.Mathlib.Omega.{arith}
 use denote.Ref.{now}
 use lib.ListN.{length}
-use Rattle.words.specs.Effect.{altered}
-use Rattle.words.proofs.Altering.{AllWords, altered-length}
-use Rattle.words.proofs.Clearing.{whole}
+use Rattle.words.specs.declared.Mode.{Mode}
 use Rattle.fonts.specs.declared.Glyph.{Glyph}
 use Rattle.fonts.specs.Face.{dotOf}
 use Rattle.paint.specs.declared.Stroke.{Stroke}
 use Rattle.paint.specs.declared.Pen.{Pen}
-use Rattle.paint.specs.Pen.{pictureEffect}
-use Rattle.paint.proofs.Accepted.{same-room}
-use Rattle.paint.proofs.Rows.{picture-begins, row-more, picture-ends}
+use Rattle.paint.specs.declared.Reach.{Reach}
+use Rattle.paint.specs.Pen.{pictureEffect, onPanel}
+use Rattle.paint.specs.Reach.{rowsDrawn, Within}
+use Rattle.paint.proofs.Drawing.{nothing-drawn}
+use Rattle.paint.proofs.Reaches.{within}
+use Rattle.paint.proofs.Reaching.{flip-drawn}
 use borrow.Author.Needs.{needs}
 use Rattle.paint.proofs.paint_picture.Statement.{statement}
 use Rattle.paint.proofs.paint_picture.Tie as tie
 
-abbrev Inv-loop : tie.InvT-loop
-Inv-loop font g k pen panel₀ end row₀ panel row =
-    (row ≤ end) × (length panel ≡ length panel₀)
-    × (panel ≡ altered 0 (row * k .rowwords) (pictureEffect (dotOf font) k pen g) panel₀)
-
-abbrev μ-loop : tie.MeasureT-loop
-μ-loop font g k pen panel₀ end row₀ panel row = end - row
-
-end-row-requires : tie.Need-end-row-requires Inv-loop μ-loop
-end-row-requires c κs = omega arith
-
-first-row-requires : tie.Need-first-row-requires Inv-loop μ-loop
-first-row-requires c κs = search needs
-
--- the call, from the moment when the loop begins
-module _ (c : tie.After-first-row Inv-loop μ-loop) where
-  abbrev call : tie.Start Inv-loop μ-loop
-  call = c .before .before .before .before
+-- the call, from the moment when the reach is known
+module _ (c : tie.After-of) where
+  abbrev call : tie.Start
+  call = c .before .before .before
 
   abbrev font : List ℕ
   font = now (call .args .font)
@@ -55,58 +40,82 @@ module _ (c : tie.After-first-row Inv-loop μ-loop) where
   abbrev panel : List ℕ
   panel = now (call .args .panel)
 
-  panel-words : AllWords panel
-  panel-words i = c .before .before .slice-known .given i .fits
+  abbrev reach : Reach
+  reach = c .of .result
 
-loop-holds : tie.Need-loop-holds Inv-loop μ-loop
-loop-holds c =
-    (omega arith, refl, picture-begins whole (font c) (k c) (pen c) (g c) (panel c) (panel-words c) _ (omega arith) (omega arith))
+  drawn : (after : List ℕ) (mode : Mode) → mode ≡ k .mode → after ≡ rowsDrawn font reach mode (reach .rows) panel
+      → after ≡ onPanel (pictureEffect (dotOf font) k pen g) k panel
+  drawn after mode is drew =
+      drew
+      ∙ (λ t. rowsDrawn font (c .of .ensures .0 t) (is t) (c .of .ensures .0 t .rows) panel)
+      ∙ flip-drawn font k pen g (λ i. c .before .before .shared-slice-known .given i .fits)
+      (call .pre .1 .1) panel (λ i. c .before .slice-known .given i .fits) (call .pre .0)
 
-paint-row-requires : tie.Need-paint-row-requires Inv-loop μ-loop
-paint-row-requires c κs =
-    let b = c .before .before in
-    let s = b .before in
-    let drawable = same-room (k s) _ (length (b .loop .panel)) (b .loop .inv .1) (call s .pre .0) in
-    (drawable, (omega arith, omega arith))
+  lies : (reach .rows ≡ 0 → ⊥) → Within reach (length panel)
+  lies some = within g k pen (length panel) (call .pre .0) reach (c .of .ensures .0) some (c .of .ensures .1)
 
-add-row : tie.Need-add-row Inv-loop μ-loop
-add-row c = omega arith
+-- and from the moment when the mode's number is, and there is a row
+module _ (m : tie.After-mode-number) where
+  abbrev known : tie.After-of
+  known = m .before .before .before
 
-loop-less : tie.Need-loop-less Inv-loop μ-loop
-loop-less c = omega arith
+  lies-here : Within (reach known) (length (panel known))
+  lies-here = lies known (m .before .if1 .left)
 
-loop-again : tie.Need-loop-again Inv-loop μ-loop
-loop-again c =
-    let drew = c .before .before in
-    let b = drew .before .before .before in
-    let s = b .before in
-    let effects = pictureEffect (dotOf (font s)) (k s) (pen s) (g s) in
-    let next = drew .paint-row .ensures ∙ row-more (k s) effects (b .loop .row) (b .loop .panel) (panel s) (b .loop .inv .2) in
-    (omega arith, ap length next ∙ altered-length 0 effects (panel s) ((b .loop .row + 1) * k s .rowwords), next)
+of-requires : tie.Need-of-requires
+of-requires c κs = search needs
 
-same-length : tie.Need-same-length Inv-loop μ-loop
-same-length c = c .before .loop .inv .1
-
-returns : tie.Need-returns Inv-loop μ-loop
+returns : tie.Need-returns
 returns c =
-    let b = c .before in
-    let s = b .before in
-    let end = s .before .end-row in
-    let there : b .loop .row ≡ end .result = omega arith in
-    picture-ends whole (font s) (k s) (pen s) (g s) (panel s) (panel-words s) _ _ _ (omega arith) there (end .ensures) (b .loop .inv .2)
+    let r = c .before .before in
+    let none = ap (λ (n : ℕ). rowsDrawn (font r) (reach r) (k r .mode) n (panel r)) (sym (c .if1 .taken)) in
+    drawn r _ (k r .mode) refl (nothing-drawn (font r) (reach r) (k r .mode) (panel r) ∙ none)
+
+mode-number-requires : tie.Need-mode-number-requires
+mode-number-requires c κs = search needs
+
+narrow-requires : tie.Need-narrow-requires
+narrow-requires c κs = let inside = lies-here c in ((inside .0, inside .1, inside .2), (inside .5, inside .6))
+
+draw-narrow-requires : tie.Need-draw-narrow-requires
+draw-narrow-requires c κs =
+    let test = c .before .before in
+    (lies-here (test .before), sym (test .narrow .ensures) ∙ c .before .if2 .taken)
+
+same-length : tie.Need-same-length
+same-length c = search needs
+
+returns-2 : tie.Need-returns-2
+returns-2 c =
+    let drew = c .before .before in
+    let m = drew .before .before .before .before in
+    drawn (known m) _ _ (m .mode-number .ensures) (drew .draw-narrow .ensures)
+
+paint-wide-requires : tie.Need-paint-wide-requires
+paint-wide-requires c κs =
+    let test = c .before .before in
+    (lies-here (test .before), sym (test .narrow .ensures) ∙ c .before .if2 .left)
+
+same-length-2 : tie.Need-same-length-2
+same-length-2 c = search needs
+
+returns-3 : tie.Need-returns-3
+returns-3 c =
+    let drew = c .before .before in
+    let m = drew .before .before .before .before in
+    drawn (known m) _ _ (m .mode-number .ensures) (drew .paint-wide .ensures)
 
 pub paint-picture-spec : {M : Type 1} → statement M
 paint-picture-spec =
     tie.close
     (tie.spec
-    Inv-loop
-    μ-loop
-    end-row-requires
-    first-row-requires
-    loop-holds
-    paint-row-requires
-    add-row
-    loop-less
-    loop-again
+    of-requires
+    returns
+    mode-number-requires
+    narrow-requires
+    draw-narrow-requires
     same-length
-    returns)
+    returns-2
+    paint-wide-requires
+    same-length-2
+    returns-3)

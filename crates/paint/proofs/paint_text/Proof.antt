@@ -15,28 +15,35 @@ use Rattle.paint.specs.declared.Stroke.{Stroke}
 use Rattle.paint.specs.Pen.{penAfter, penAlong, stepsOf, Near, Drawable}
 use Rattle.paint.proofs.Accepted.{same-room}
 use Rattle.paint.proofs.Along.{along-turn, along-done, Gone, gone-nowhere, gone-on, gone-near}
+use Rattle.paint.proofs.Labels.{found-glyph, glyph-behind}
 use Rattle.paint.proofs.Labels.{drawn, pictured, pictured-length, drawn-turn, drawn-done}
 use borrow.Author.Needs.{needs}
 use Rattle.paint.proofs.paint_text.Statement.{statement}
 use Rattle.paint.proofs.paint_text.Tie as tie
 
 abbrev Inv-loop : tie.InvT-loop
-Inv-loop font v k text panel₀ pen₀ i₀ panel pen i =
+Inv-loop font v k text panel₀ pointers widths pen₀ i₀ panel pen i =
     (i ≤ length text) × (length panel ≡ length panel₀) × AllWords panel
     × (drawn whole (faceFrom v font) k pen₀ text panel₀ ≡ drawn whole (faceFrom v font) k pen (drop i text) panel)
     × (penAlong (stepsOf (faceFrom v font)) pen₀ text ≡ penAlong (stepsOf (faceFrom v font)) pen (drop i text))
     × Gone pen₀ pen i
 
 abbrev μ-loop : tie.MeasureT-loop
-μ-loop font v k text panel₀ pen₀ i₀ panel pen i = length text - i
+μ-loop font v k text panel₀ pointers widths pen₀ i₀ panel pen i = length text - i
+
+pointers-requires : tie.Need-pointers-requires Inv-loop μ-loop
+pointers-requires c κs = search needs
+
+widths-requires : tie.Need-widths-requires Inv-loop μ-loop
+widths-requires c κs = search needs
 
 loop-holds : tie.Need-loop-holds Inv-loop μ-loop
-loop-holds c = (omega arith, refl, (λ i. c .slice-known .given i .fits), refl, refl, gone-nowhere _)
+loop-holds c = (omega arith, refl, (λ i. c .before .before .slice-known .given i .fits), refl, refl, gone-nowhere _)
 
 -- the call, wherever the loop is
 module _ (b : tie.At-loop Inv-loop μ-loop) where
   abbrev call : tie.Start Inv-loop μ-loop
-  call = b .before .before .before .before
+  call = b .before .before .before .before .before .before
 
   abbrev face : Face
   face = faceFrom (call .args .v) (now (call .args .font))
@@ -55,20 +62,25 @@ module _ (b : tie.At-loop Inv-loop μ-loop) where
   drawable = same-room k _ (length (b .loop .panel)) (b .loop .inv .1) (call .pre .0)
 
 -- a character has been found
-module _ (shown : tie.After-of Inv-loop μ-loop) where
+module _ (shown : tie.After-at Inv-loop μ-loop) where
   abbrev turn : tie.At-loop Inv-loop μ-loop
   turn = shown .before .before .before .before
 
   less : turn .loop .i < length (text turn)
   less = shown .before .before .before .loop-test .taken
 
-  glyph : shown .of .result ≡ face turn .glyph (getD (text turn) (turn .loop .i) 0)
-  unfolding faceFrom
-  glyph = shown .of .ensures ∙ ap (face turn .glyph) (shown .before .code .ensures)
+  glyph : shown .at .result ≡ face turn .glyph (getD (text turn) (turn .loop .i) 0)
+  glyph =
+      let tables = turn .before in
+      found-glyph (call turn .args .v) (now (call turn .args .font)) _ _ _ (shown .at .ensures)
+      (tables .before .pointers .ensures) (tables .widths .ensures) (shown .before .code .ensures)
+
+  behind : 1 ≤ shown .at .result .bitmap
+  behind = rw glyph (glyph-behind (call turn .args .v) (now (call turn .args .font)) (getD (text turn) (turn .loop .i) 0))
 
 -- and painted
 module _ (drew : tie.After-paint-picture Inv-loop μ-loop) where
-  abbrev found : tie.After-of Inv-loop μ-loop
+  abbrev found : tie.After-at Inv-loop μ-loop
   found = drew .before .before
 
 -- and the pen has moved
@@ -82,13 +94,13 @@ shared-slice-read-code c = omega arith
 code-requires : tie.Need-code-requires Inv-loop μ-loop
 code-requires c κs = search needs
 
-of-requires : tie.Need-of-requires Inv-loop μ-loop
-of-requires c κs = search needs
+at-requires : tie.Need-at-requires Inv-loop μ-loop
+at-requires c κs = search needs
 
 paint-picture-requires : tie.Need-paint-picture-requires Inv-loop μ-loop
 paint-picture-requires c κs =
     let b = turn (c .before) in
-    (drawable b, near b .0)
+    (drawable b, (near b .0, behind (c .before)))
 
 step-requires : tie.Need-step-requires Inv-loop μ-loop
 step-requires c κs = search needs
@@ -145,10 +157,12 @@ paint-text-spec =
     (tie.spec
     Inv-loop
     μ-loop
+    pointers-requires
+    widths-requires
     loop-holds
     shared-slice-read-code
     code-requires
-    of-requires
+    at-requires
     paint-picture-requires
     step-requires
     after-requires

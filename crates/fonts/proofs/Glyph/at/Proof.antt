@@ -1,0 +1,61 @@
+-- `fonts::Glyph::at` meets its contract, field by field: it asks the tables at the code's own place, and at the dummy's where the dummy
+-- is drawn.
+-- Assumes nothing.
+use Rattle.fonts.specs.Face.{shown, glyphBy}
+use borrow.Author.Needs.{needs}
+use Rattle.fonts.proofs.Glyph.at.Statement.{statement}
+use Rattle.fonts.proofs.Glyph.at.Tie as tie
+
+place-requires : tie.Need-place-requires
+place-requires c κs = search needs
+
+at-requires : tie.Need-at-requires
+at-requires c κs = search needs
+
+exists-requires : tie.Need-exists-requires
+exists-requires c κs = search needs
+
+drawn-requires : tie.Need-drawn-requires
+drawn-requires c κs = search needs
+
+bitmap-at-requires : tie.Need-bitmap-at-requires
+bitmap-at-requires c κs = search needs
+
+cast-t10 : tie.Need-cast-t10
+cast-t10 c = search needs
+
+columns-requires : tie.Need-columns-requires
+columns-requires c κs = search needs
+
+height-requires : tie.Need-height-requires
+height-requires c κs = search needs
+
+cast-t13 : tie.Need-cast-t13
+cast-t13 c = search needs
+
+place-requires-2 : tie.Need-place-requires-2
+place-requires-2 c κs = search needs
+
+advance-requires : tie.Need-advance-requires
+advance-requires c κs = search needs
+
+returns : tie.Need-returns
+unfolding glyphBy shown
+returns c = cc
+
+pub at-spec : {M : Type 1} → statement M
+at-spec =
+    tie.close
+    (tie.spec
+    place-requires
+    at-requires
+    exists-requires
+    drawn-requires
+    bitmap-at-requires
+    cast-t10
+    columns-requires
+    height-requires
+    cast-t13
+    place-requires-2
+    advance-requires
+    returns)
