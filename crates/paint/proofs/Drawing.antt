@@ -7,54 +7,63 @@ use native.Mathlib.Nat.{add-zero, zero-mul, add-assoc, suc-mul, mul-le-mul, mul-
 use native.Mathlib.Numerals.{add-one}
 use native.Mathlib.Omega.{arith}
 use lib.Bits.{bitAnd}
-use lib.Dec.{eqb, ltb}
-use lib.ListN.{length, set, length-set}
+use lib.Dec.{eqb}
+use lib.ListN.{length, length-set}
 use borrow.Author.Tests.{lt-ltb, le-ltb, eqb-true, eqb-false, ne-eqb, ltb-true}
 use Rattle.words.specs.declared.Mode.{Mode}
 use Rattle.words.specs.declared.Mode.the-variants.{Paint, Erase, Invert}
-use Rattle.words.specs.Word.{word}
-use Rattle.words.specs.Effect.{effectOf, modeOf, applyTo}
+use Rattle.words.specs.Effect.{modeOf}
 use Rattle.words.proofs.BitLaws.{and-assoc, and-ones}
 use Rattle.words.proofs.Passed.{both}
 use Rattle.paint.specs.declared.Reach.{Reach}
-use Rattle.paint.specs.Reach.{window, rowMarks, rowDrawn, rowsDrawn, rowsKept, inFile, narrowIn, Within}
+use Rattle.paint.specs.Reach.{window, rowMarks, marked, rowDrawn, rowsDrawn, rowsKept, inFile, narrowIn, Within}
 
--- ---- how far the rows of a reach go
+-- ---- where a loop over the rows of a reach is
 
-module _ (r : Reach) (row : ℕ) (less : row < r .rows) where
-  -- one row fewer than all, and then one more
-  row-before : (step : ℕ) → row * step + step ≤ r .rows * step
-  row-before step = rw (← suc-mul row step) (mul-le-mul-right step less)
+-- before a row: in the font, and in what is lent
+abbrev pub AtRow : Reach → ℕ → ℕ → ℕ → Type 0
+AtRow r row from at = (from ≡ r .source + row * r .raster) × (at ≡ r .at + row * r .rowwords)
 
-  pub row-inside : (room : ℕ) → Within r room → r .at + row * r .rowwords + r .last < room
-  row-inside room within = omega (arith, row-before (r .rowwords), within .3)
+pub at-first-row : (r : Reach) → AtRow r 0 (r .source) (r .at)
+at-first-row r = (no-rows (r .source) (r .raster), no-rows (r .at) (r .rowwords))
+  where
+    no-rows : (first step : ℕ) → first ≡ first + 0 * step
+    no-rows first step = sym (ap (_+_ first) (zero-mul step) ∙ add-zero first)
 
-  pub row-source : (room : ℕ) → Within r room → r .source + row * r .raster + r .raster ≤ 17196646400
-  row-source room within =
-      let all : r .rows * r .raster ≤ 16776960 = mul-le-mul {n₂ = 256} {m₂ = 65535} (within .1) (within .6) in
-      omega (arith, row-before (r .raster), within .5)
+module _ (r : Reach) (row from at : ℕ) (here : AtRow r row from at) where
+  pub at-next-row : AtRow r (row + 1) (from + r .raster) (at + r .rowwords)
+  at-next-row = (one-row-on from (r .source) (r .raster) (here .0), one-row-on at (r .at) (r .rowwords) (here .1))
+    where
+      one-row-on : (place first step : ℕ) → place ≡ first + row * step → place + step ≡ first + (row + 1) * step
+      one-row-on place first step e =
+          ap (λ (n : ℕ). n + step) e ∙ add-assoc first (row * step) step
+          ∙ ap (_+_ first) (sym (ap (λ (n : ℕ). n * step) (add-one row) ∙ suc-mul row step))
 
-  pub row-at : (room : ℕ) → Within r room → r .at + row * r .rowwords + r .rowwords ≤ 98303
-  row-at room within =
-      let all : r .rows * r .rowwords ≤ 32768 = mul-le-mul {n₂ = 256} {m₂ = 128} (within .1) (within .4) in
-      omega (arith, row-before (r .rowwords), within .8)
+  -- while there is a row, it is inside
+  module _ (less : row < r .rows) where
+    row-before : (step : ℕ) → row * step + step ≤ r .rows * step
+    row-before step = rw (← suc-mul row step) (mul-le-mul-right step less)
 
-  -- of a picture in the file, the words of a row and their neighbours are there
-  pub row-in-file : (words : ℕ) → inFile r words ≡ true → r .source + row * r .raster + r .last + 1 < words
-  unfolding inFile
-  row-in-file words there =
-      let all : r .source + (r .rows - 1) * r .raster + r .last + 1 < words = ltb-true _ _ there in
-      let rows : row * r .raster ≤ (r .rows - 1) * r .raster = mul-le-mul-right (r .raster) (omega arith) in
-      omega arith
+    pub row-inside : (room : ℕ) → Within r room → at + r .last < room
+    row-inside room within = omega (arith, row-before (r .rowwords), within .3, here .1)
 
--- from one row to the next
-pub one-row-on : (place first row step : ℕ) → place ≡ first + row * step → place + step ≡ first + (row + 1) * step
-one-row-on place first row step e =
-    ap (λ (n : ℕ). n + step) e ∙ add-assoc first (row * step) step
-    ∙ ap (_+_ first) (sym (ap (λ (n : ℕ). n * step) (add-one row) ∙ suc-mul row step))
+    pub row-source : (room : ℕ) → Within r room → from + r .raster ≤ 17196646400
+    row-source room within =
+        let all : r .rows * r .raster ≤ 16776960 = mul-le-mul {n₂ = 256} {m₂ = 65535} (within .1) (within .6) in
+        omega (arith, row-before (r .raster), within .5, here .0)
 
-pub no-rows : (first step : ℕ) → first ≡ first + 0 * step
-no-rows first step = sym (ap (_+_ first) (zero-mul step) ∙ add-zero first)
+    pub row-at : (room : ℕ) → Within r room → at + r .rowwords ≤ 98303
+    row-at room within =
+        let all : r .rows * r .rowwords ≤ 32768 = mul-le-mul {n₂ = 256} {m₂ = 128} (within .1) (within .4) in
+        omega (arith, row-before (r .rowwords), within .8, here .1)
+
+    -- of a picture in the file, the words of a row and their neighbours are there
+    pub row-in-file : (words : ℕ) → inFile r words ≡ true → from + r .last + 1 < words
+    unfolding inFile
+    row-in-file words there =
+        let all : r .source + (r .rows - 1) * r .raster + r .last + 1 < words = ltb-true _ _ there in
+        let rows : row * r .raster ≤ (r .rows - 1) * r .raster = mul-le-mul-right (r .raster) (omega arith) in
+        omega (arith, here .0)
 
 pub nothing-drawn : (font : List ℕ) (r : Reach) (mode : Mode) (lent : List ℕ) → lent ≡ rowsDrawn font r mode 0 lent
 unfolding rowsDrawn
@@ -81,79 +90,75 @@ pub whole-mask : (r : Reach) (w : ℕ) → 0xFFFF ≡ cond (eqb (w + 1) 0) (r .h
 whole-mask r w = rw (ne-eqb (w + 1) 0 (λ e. absurd (omega arith)))
 
 module _ (font : List ℕ) (r : Reach) (mode : Mode) where
-  pub row-length : (from at n : ℕ) (lent : List ℕ) → length (rowDrawn font r mode from at n lent) ≡ length lent
+  row-length : (from at n : ℕ) (lent : List ℕ) → length (rowDrawn font r mode from at n lent) ≡ length lent
   unfolding rowDrawn
   row-length from at zero lent = refl
   row-length from at (suc n) lent = simp length-set (row-length from at n lent)
 
-  pub rows-length : (n : ℕ) (lent : List ℕ) → length (rowsDrawn font r mode n lent) ≡ length lent
+  rows-length : (n : ℕ) (lent : List ℕ) → length (rowsDrawn font r mode n lent) ≡ length lent
   unfolding rowsDrawn
   rows-length zero lent = refl
   rows-length (suc n) lent = row-length _ _ (suc (r .last)) (rowsDrawn font r mode n lent) ∙ rows-length n lent
 
+  pub rows-room : (n : ℕ) (now lent : List ℕ) → now ≡ rowsDrawn font r mode n lent → length now ≡ length lent
+  rows-room n now lent same = ap length same ∙ rows-length n lent
+
+  pub row-room : (from at n : ℕ) (now lent : List ℕ) → now ≡ rowDrawn font r mode from at n lent → length now ≡ length lent
+  row-room from at n now lent same = ap length same ∙ row-length from at n lent
+
   -- ---- the marks that the code makes
 
-  module _ (from w mask : ℕ) (first : mask ≡ cond (eqb w 0) (r .head) 0xFFFF) where
-    pub marks-before : w < r .last → bitAnd (window font (from + w) (r .shift)) mask ≡ rowMarks font r from w
+  module _ (from w mask dots : ℕ) (first : mask ≡ cond (eqb w 0) (r .head) 0xFFFF) (read : dots ≡ window font (from + w) (r .shift)) where
+    pub marks-before : w < r .last → bitAnd dots mask ≡ rowMarks font r from w
     unfolding rowMarks
-    marks-before less = rw (lt-ltb w (r .last) less) (ap (bitAnd (window font (from + w) (r .shift))) first)
+    marks-before less = rw (lt-ltb w (r .last) less) (ap₂ bitAnd read first)
 
-    pub marks-last : w ≡ r .last → bitAnd (bitAnd (window font (from + w) (r .shift)) mask) (r .tail) ≡ rowMarks font r from w
+    pub marks-last : w ≡ r .last → bitAnd (bitAnd dots mask) (r .tail) ≡ rowMarks font r from w
     unfolding rowMarks
-    marks-last there =
-        rw (le-ltb w (r .last) (omega arith))
-        (ap (λ (m : ℕ). bitAnd (bitAnd (window font (from + w) (r .shift)) m) (r .tail)) first)
+    marks-last there = rw (le-ltb w (r .last) (omega arith)) (ap₂ (λ (d m : ℕ). bitAnd (bitAnd d m) (r .tail)) read first)
 
     -- where there are words before the last, none of its columns is before the first
-    pub marks-wide : w ≡ r .last → 1 ≤ r .last → bitAnd (window font (from + w) (r .shift)) (r .tail) ≡ rowMarks font r from w
+    pub marks-wide : w ≡ r .last → 1 ≤ r .last → bitAnd dots (r .tail) ≡ rowMarks font r from w
     marks-wide there some =
-        let dots = window font (from + w) (r .shift) in
         let all : mask ≡ 0xFFFF = first ∙ rw (ne-eqb w 0 (λ e. absurd (omega arith))) in
-        ap (λ (n : ℕ). bitAnd n (r .tail)) (sym (ap (bitAnd dots) all ∙ and-ones dots (mod-lt _ (omega arith)))) ∙ marks-last there
+        let small : dots < 65536 = rw read (mod-lt _ (omega arith)) in
+        ap (λ (n : ℕ). bitAnd n (r .tail)) (sym (ap (bitAnd dots) all ∙ and-ones dots small)) ∙ marks-last there
 
-  pub marks-narrow : (from : ℕ) → r .last ≡ 0 → bitAnd (window font from (r .shift)) (bitAnd (r .head) (r .tail)) ≡ rowMarks font r from 0
-  marks-narrow from alone =
-      sym (and-assoc (window font from (r .shift)) (r .head) (r .tail))
-      ∙ ap (λ (i : ℕ). bitAnd (bitAnd (window font i (r .shift)) (r .head)) (r .tail)) (sym (add-zero from))
-      ∙ marks-last from 0 (r .head) refl (sym alone)
+  pub marks-narrow : (from dots : ℕ) → dots ≡ window font from (r .shift) → r .last ≡ 0
+      → bitAnd dots (bitAnd (r .head) (r .tail)) ≡ rowMarks font r from 0
+  marks-narrow from dots read alone =
+      sym (and-assoc dots (r .head) (r .tail))
+      ∙ marks-last from 0 (r .head) dots refl (read ∙ ap (λ (i : ℕ). window font i (r .shift)) (sym (add-zero from))) (sym alone)
 
   -- ---- a turn of a loop over the words, and over the rows
 
-  pub word-more : (from at w d : ℕ) (now lent : List ℕ) → now ≡ rowDrawn font r mode from at w lent
-      → d ≡ applyTo (effectOf mode (rowMarks font r from w)) (word now (at + w))
-      → set now (at + w) d ≡ rowDrawn font r mode from at (w + 1) lent
+  pub word-more : (from at w marks : ℕ) (now next lent : List ℕ) → now ≡ rowDrawn font r mode from at w lent → marks ≡ rowMarks font r from w
+      → next ≡ marked mode marks (at + w) now
+      → next ≡ rowDrawn font r mode from at (w + 1) lent
   unfolding rowDrawn
-  word-more from at w d now lent same becomes =
-      ap (set now (at + w)) becomes
-      ∙ ap (λ (p : List ℕ). set p (at + w) (applyTo (effectOf mode (rowMarks font r from w)) (word p (at + w)))) same
-      ∙ ap (λ (n : ℕ). rowDrawn font r mode from at n lent) (sym (add-one w))
+  word-more from at w marks now next lent same these drew =
+      drew ∙ ap₂ (λ (m : ℕ). marked mode m (at + w)) these same ∙ ap (λ (n : ℕ). rowDrawn font r mode from at n lent) (sym (add-one w))
 
-  pub row-more : (from at row : ℕ) (now next lent : List ℕ) → now ≡ rowsDrawn font r mode row lent
-      → from ≡ r .source + row * r .raster → at ≡ r .at + row * r .rowwords
+  pub row-more : (from at row : ℕ) (now next lent : List ℕ) → AtRow r row from at → now ≡ rowsDrawn font r mode row lent
       → next ≡ rowDrawn font r mode from at (r .last + 1) now
       → next ≡ rowsDrawn font r mode (row + 1) lent
   unfolding rowsDrawn
-  row-more from at row now next lent same begins lies drew =
+  row-more from at row now next lent here same drew =
       drew
       ∙ ap (λ (n : ℕ). rowDrawn font r mode from at n now) (add-one (r .last))
-      ∙ (λ i. rowDrawn font r mode (begins i) (lies i) (suc (r .last)) (same i))
+      ∙ (λ i. rowDrawn font r mode (here .0 i) (here .1 i) (suc (r .last)) (same i))
       ∙ ap (λ (n : ℕ). rowsDrawn font r mode n lent) (sym (add-one row))
 
   -- a row of one word
-  pub narrow-more : (from at row d : ℕ) (now lent : List ℕ) → now ≡ rowsDrawn font r mode row lent
-      → from ≡ r .source + row * r .raster → at ≡ r .at + row * r .rowwords → r .last ≡ 0
-      → d ≡ applyTo (effectOf mode (bitAnd (window font from (r .shift)) (bitAnd (r .head) (r .tail)))) (word now at)
-      → set now at d ≡ rowsDrawn font r mode (row + 1) lent
+  pub narrow-more : (from at row dots : ℕ) (now next lent : List ℕ) → AtRow r row from at → now ≡ rowsDrawn font r mode row lent
+      → dots ≡ window font from (r .shift) → r .last ≡ 0 → next ≡ marked mode (bitAnd dots (bitAnd (r .head) (r .tail))) at now
+      → next ≡ rowsDrawn font r mode (row + 1) lent
   unfolding rowDrawn
-  narrow-more from at row d now lent same begins lies alone becomes =
-      let here = add-zero at in
-      let one =
-      ap (λ (i : ℕ). set now i d) (sym here)
-      ∙ word-more from at 0 d now now refl
-      (becomes
-      ∙ ap₂ (λ (m i : ℕ). applyTo (effectOf mode m) (word now i)) (marks-narrow from alone) (sym here)) in
-      row-more from at row now (set now at d) lent same begins lies
-      (one ∙ ap (λ (n : ℕ). rowDrawn font r mode from at (n + 1) now) (sym alone))
+  narrow-more from at row dots now next lent here same read alone drew =
+      let marks = bitAnd dots (bitAnd (r .head) (r .tail)) in
+      let first = drew ∙ ap (λ (i : ℕ). marked mode marks i now) (sym (add-zero at)) in
+      let one = word-more from at 0 marks now next now refl (marks-narrow from dots read alone) first in
+      row-more from at row now next lent here same (one ∙ ap (λ (n : ℕ). rowDrawn font r mode from at (n + 1) now) (sym alone))
 
   pub nothing-kept : (lent : List ℕ) → r .rows ≡ 0 → lent ≡ rowsKept font r mode lent
   unfolding rowsKept

@@ -40,7 +40,7 @@ high-digit (suc k) high low i small =
     ap (dig (high * 2 ^ suc k + low)) (suc-add k i)
     ∙ ap (λ (n : ℕ). dig n (k + i)) half ∙ high-digit k high (low / 2) i (omega arith)
 
--- a shift leaves out the first k digits, and a word has sixteen
+-- a shift leaves out the first k digits
 shift-digit : (k n i : ℕ) → dig (n / 2 ^ k) i ≡ dig n (k + i)
 unfolding dig
 shift-digit zero n i = ap (λ (m : ℕ). dig m i) (div-one n) ∙ ap (dig n) (sym (zero-add i))
@@ -49,17 +49,17 @@ shift-digit (suc k) n i =
     ∙ shift-digit k (n / 2) i
     ∙ ap (dig n) (sym (suc-add k i))
 
--- a number up to k digits has those, and a word has sixteen
+-- a remainder has them and no others
 first-digits : (k n i : ℕ) → i < k → dig (n % 2 ^ k) i ≡ dig n i
 first-digits k n i here =
     sym (low-digit k (n / 2 ^ k) (n % 2 ^ k) i (mod-lt n (pow-pos k)) here) ∙ ap (λ (m : ℕ). dig m i) (div-add-mod' n (2 ^ k))
 
+two-words-digit : (high low shift i : ℕ) → i < 16 → dig (twoWords high low shift) i ≡ dig (high * 65536 + low) (16 - shift + i)
+two-words-digit high low shift i here = first-digits 16 _ i here ∙ shift-digit (16 - shift) (high * 65536 + low) i
+
 module _ (high low shift j : ℕ) (small : low < 65536) (begins : shift < 16) (here : j < 16) where
   two-digit : bitOf (twoWords high low shift) j ≡ dig (high * 65536 + low) (16 - shift + (15 - j))
-  two-digit =
-      bit-dig (twoWords high low shift) j
-      ∙ first-digits 16 ((high * 65536 + low) / 2 ^ (16 - shift)) (15 - j) (omega arith)
-      ∙ shift-digit (16 - shift) (high * 65536 + low) (15 - j)
+  two-digit = bit-dig (twoWords high low shift) j ∙ two-words-digit high low shift (15 - j) (omega arith)
 
   pub in-first : shift + j < 16 → bitOf (twoWords high low shift) j ≡ bitOf high (shift + j)
   in-first less =
@@ -127,9 +127,6 @@ module _ (high low shift : ℕ) (high-word : high < 65536) (low-word : low < 655
       ∙ dig-or (ring * 2 ^ shift % 4294967296) (ring / 2 ^ ((32 - shift) % 32)) i
       ∙ ap₂ max (first-digits 32 (ring * 2 ^ shift) i (omega arith)) (shift-digit ((32 - shift) % 32) ring i)
 
-  two-words-digit : (i : ℕ) → i < 16 → dig (twoWords high low shift) i ≡ dig (high * 65536 + low) (16 - shift + i)
-  two-words-digit i here = first-digits 16 _ i here ∙ shift-digit (16 - shift) (high * 65536 + low) i
-
   same-digit : (i : ℕ) → i < 16 → (t u : Bool) → ltb i shift ≡ t → eqb shift 0 ≡ u → dig turned i ≡ dig (twoWords high low shift) i
   same-digit i here true u e f =
       let less : i < shift = ltb-true i shift e in
@@ -137,7 +134,7 @@ module _ (high low shift : ℕ) (high-word : high < 65536) (low-word : low < 655
       turned-digit i here
       ∙ ap₂ max (shifted-in shift ring i less) (ap (dig ring) at ∙ high-digit 16 low high (16 - shift + i) high-word)
       ∙ zero-max (dig low (16 - shift + i))
-      ∙ sym (two-words-digit i here ∙ low-digit 16 high low (16 - shift + i) low-word (omega arith))
+      ∙ sym (two-words-digit high low shift i here ∙ low-digit 16 high low (16 - shift + i) low-word (omega arith))
   same-digit i here false u e f =
       let past : shift ≤ i = ltb-false i shift e in
       let on : i ≡ shift + (i - shift) = omega arith in
@@ -147,7 +144,7 @@ module _ (high low shift : ℕ) (high-word : high < 65536) (low-word : low < 655
       ∙ ap (λ (x : ℕ). max x (dig ring ((32 - shift) % 32 + i)))
       (ap (dig (ring * 2 ^ shift)) on ∙ shifted-on shift ring (i - shift) ∙ own)
       ∙ by-shift u f
-      ∙ sym (two-words-digit i here ∙ ap (dig (high * 65536 + low)) from ∙ high-digit 16 high low (i - shift) low-word)
+      ∙ sym (two-words-digit high low shift i here ∙ ap (dig (high * 65536 + low)) from ∙ high-digit 16 high low (i - shift) low-word)
     where
       by-shift : (u : Bool) → eqb shift 0 ≡ u → max (dig high (i - shift)) (dig ring ((32 - shift) % 32 + i)) ≡ dig high (i - shift)
       by-shift true f =

@@ -82,12 +82,14 @@ rowMarks font r from w =
     let dots = bitAnd (window font (from + w) (r .shift)) (cond (eqb w 0) (r .head) 0xFFFF) in
     cond (ltb w (r .last)) dots (bitAnd dots (r .tail))
 
--- a lent slice with the marks of a row on n words, from word `at` on
+-- a lent slice with marks on word i
+abbrev pub marked : Mode → ℕ → ℕ → List ℕ → List ℕ
+marked mode marks i lent = set lent i (applyTo (effectOf mode marks) (word lent i))
+
+-- with the marks of a row on n words, from word `at` on
 unfoldable pub rowDrawn : List ℕ → Reach → Mode → ℕ → ℕ → ℕ → List ℕ → List ℕ
 rowDrawn font r mode from at zero lent = lent
-rowDrawn font r mode from at (suc n) lent =
-    let now = rowDrawn font r mode from at n lent in
-    set now (at + n) (applyTo (effectOf mode (rowMarks font r from n)) (word now (at + n)))
+rowDrawn font r mode from at (suc n) lent = marked mode (rowMarks font r from n) (at + n) (rowDrawn font r mode from at n lent)
 
 -- and with those of n rows
 unfoldable pub rowsDrawn : List ℕ → Reach → Mode → ℕ → List ℕ → List ℕ

@@ -24,7 +24,7 @@ ghost use Rattle.paint.specs.Pen.{penAt, penAfter, penAlong, speltSteps,
 ghost use Rattle.paint.specs.Pen.{strokeOf, strokeWords, Drawable};
 ghost use Rattle.paint.specs.Pen.{onPanel, pictureEffect, labelEffect};
 ghost use Rattle.paint.specs.Reach.{shared, fromColumn, uptoColumn, reachOver, reachOf, inFile, narrowIn, twoWords, window};
-ghost use Rattle.paint.specs.Reach.{rowDrawn, rowsDrawn, rowsKept, Nearby, Within};
+ghost use Rattle.paint.specs.Reach.{marked, rowDrawn, rowsDrawn, rowsKept, Nearby, Within};
 ghost use Rattle.paint.specs.Sheet.{sheetOf, lengthsOf};
 ghost use Rattle.paint.specs.declared.Reply.the-variants.{Done};
 ghost use Rattle.paint.specs.Label.{callOf, labelNumber, numberWith, lastPen, finishOf, replyWith, replyOf};
@@ -463,16 +463,27 @@ fn two_words(high: u16, low: u16, shift: usize) -> u16
     (((ring << turn) | (ring >> ((32 - turn) % 32))) % 65536) as u16
 }
 
+// Sixteen bits of a font, from a bit of word i on, where the word behind it is there too.
+fn dots_from(font: &[u16], i: usize, shift: usize) -> u16
+    requires { ⌜ (i ≤ 34359738368) × (shift < 16) × (i + 1 < length (now font)) ⌝ }
+    ensures { λ r. ⌜ r ≡ window (given font) i shift ⌝ }
+{
+    two_words(font[i], font[i + 1], shift)
+}
+
 // Sixteen bits of a font, from a bit of word i on; there is none past its end.
 fn window(font: &[u16], i: usize, shift: usize) -> u16
     requires { ⌜ (i ≤ 34359738368) × (shift < 16) ⌝ }
     ensures { λ r. ⌜ r ≡ window (given font) i shift ⌝ }
 {
     if i + 1 < font.len() {
-        return two_words(font[i], font[i + 1], shift);
+        return dots_from(font, i, shift);
     }
     two_words(words::word_at(font, i), 0, shift)
 }
+
+// The number of Erase.
+const ERASE: u32 = 1;
 
 // The number of a mode. The loops take it by that, as a plain number.
 fn mode_number(mode: Mode) -> u32
@@ -513,6 +524,14 @@ fn under(mode: u32, mask: u16, word: u16) -> u16
     Effect::new(kept, flipped_dots(mode, mask)).apply(word)
 }
 
+// The dots of a mask on word i of what is lent.
+fn mark(mode: u32, mask: u16, i: usize, lent: &mut [u16])
+    requires { ⌜ i < length (now lent) ⌝ }
+    ensures { λ o. ⌜ after lent ≡ marked (modeOf mode) mask i (given lent) ⌝ }
+{
+    lent[i] = under(mode, mask, lent[i]);
+}
+
 // A picture in one word a row, on the rows that it reaches.
 fn draw_narrow(font: &[u16], r: Reach, mode: u32, lent: &mut [u16])
     requires { ⌜ Within r (length (now lent)) ⌝ }
@@ -524,8 +543,8 @@ fn draw_narrow(font: &[u16], r: Reach, mode: u32, lent: &mut [u16])
     let mut at = r.at;
     let mut row = 0;
     while row < r.rows {
-        let dots = two_words(font[from], font[from + 1], r.shift);
-        lent[at] = under(mode, dots & mask, lent[at]);
+        let dots = dots_from(font, from, r.shift) & mask;
+        mark(mode, dots, at, lent);
         from += r.raster;
         at += r.rowwords;
         row += 1;
@@ -541,13 +560,13 @@ fn draw_line(font: &[u16], r: Reach, mode: u32, from: usize, at: usize, lent: &m
     let mut mask = r.head;
     let mut w = 0;
     while w < r.last {
-        let dots = two_words(font[from + w], font[from + w + 1], r.shift);
-        lent[at + w] = under(mode, dots & mask, lent[at + w]);
+        let dots = dots_from(font, from + w, r.shift) & mask;
+        mark(mode, dots, at + w, lent);
         mask = 0xFFFF;
         w += 1;
     }
-    let dots = two_words(font[from + w], font[from + w + 1], r.shift);
-    lent[at + w] = under(mode, dots & r.tail, lent[at + w]);
+    let dots = dots_from(font, from + w, r.shift) & r.tail;
+    mark(mode, dots, at + w, lent);
 }
 
 // A picture in two words a row or more, on the rows that it reaches.
@@ -576,15 +595,13 @@ fn draw_row(font: &[u16], r: Reach, mode: u32, from: usize, at: usize, lent: &mu
     let mut mask = r.head;
     let mut w = 0;
     while w < r.last {
-        lent[at + w] = under(mode, window(font, from + w, r.shift) & mask, lent[at + w]);
+        let dots = window(font, from + w, r.shift) & mask;
+        mark(mode, dots, at + w, lent);
         mask = 0xFFFF;
         w += 1;
     }
-    lent[at + w] = under(
-        mode,
-        window(font, from + w, r.shift) & mask & r.tail,
-        lent[at + w],
-    );
+    let dots = window(font, from + w, r.shift) & mask & r.tail;
+    mark(mode, dots, at + w, lent);
 }
 
 // Such a picture, on the rows that it reaches.
@@ -604,7 +621,7 @@ fn draw_rows(font: &[u16], r: Reach, mode: u32, lent: &mut [u16])
 }
 
 // A picture that is not in one word a row, painted; or one that does not lie in the file.
-fn paint_wide(font: &[u16], r: Reach, mode: u32, panel: &mut [u16])
+fn paint_other(font: &[u16], r: Reach, mode: u32, panel: &mut [u16])
     requires { ⌜ Within r (length (now panel)) ⌝ }
     requires { ⌜ narrowIn r (length (now font)) ≡ false ⌝ }
     ensures { λ o. ⌜ after panel ≡ rowsDrawn (given font) r (modeOf mode) (r .rows) (given panel) ⌝ }
@@ -632,7 +649,7 @@ fn paint_picture(font: &[u16], g: Glyph, k: Stroke, pen: Pen, panel: &mut [u16])
         draw_narrow(font, reach, mode, panel);
         return;
     }
-    paint_wide(font, reach, mode, panel);
+    paint_other(font, reach, mode, panel);
 }
 
 // The characters of a text, in order, on the panel. Hands back the pen after the last.
@@ -657,7 +674,29 @@ fn paint_text(font: &[u16], v: View, k: Stroke, start: Pen, text: &[u8], panel: 
     pen
 }
 
-// A picture in one word a row, joined onto a sheet: what is painted or erased is no longer kept, and flip changes as a panel does.
+// A picture in one word a row, joined onto a sheet by Paint or Erase: its dots are no longer kept, and flip changes as a panel does.
+fn settle_narrow(font: &[u16], r: Reach, mode: u32, keep: &mut [u16], flip: &mut [u16])
+    requires { ⌜ Within r (length (now keep)) ⌝ }
+    requires { ⌜ Within r (length (now flip)) ⌝ }
+    requires { ⌜ narrowIn r (length (now font)) ≡ true ⌝ }
+    ensures keep { λ o. ⌜ after keep ≡ rowsDrawn (given font) r (modeOf 1) (r .rows) (given keep) ⌝ }
+    ensures flip { λ o. ⌜ after flip ≡ rowsDrawn (given font) r (modeOf mode) (r .rows) (given flip) ⌝ }
+{
+    let columns = r.head & r.tail;
+    let mut from = r.source;
+    let mut at = r.at;
+    let mut row = 0;
+    while row < r.rows {
+        let dots = dots_from(font, from, r.shift) & columns;
+        mark(mode, dots, at, flip);
+        mark(ERASE, dots, at, keep);
+        from += r.raster;
+        at += r.rowwords;
+        row += 1;
+    }
+}
+
+// So by any mode. Invert changes flip alone.
 fn join_narrow(font: &[u16], r: Reach, mode: u32, keep: &mut [u16], flip: &mut [u16])
     requires { ⌜ Within r (length (now keep)) ⌝ }
     requires { ⌜ Within r (length (now flip)) ⌝ }
@@ -665,14 +704,92 @@ fn join_narrow(font: &[u16], r: Reach, mode: u32, keep: &mut [u16], flip: &mut [
     ensures keep { λ o. ⌜ after keep ≡ rowsKept (given font) r (modeOf mode) (given keep) ⌝ }
     ensures flip { λ o. ⌜ after flip ≡ rowsDrawn (given font) r (modeOf mode) (r .rows) (given flip) ⌝ }
 {
-    draw_narrow(font, r, mode, flip);
     if mode < 2 {
-        draw_narrow(font, r, 1, keep);
+        settle_narrow(font, r, mode, keep, flip);
+        return;
+    }
+    draw_narrow(font, r, mode, flip);
+}
+
+// One row of a picture in two words a row or more, joined so by Paint or Erase.
+fn settle_line(
+    font: &[u16],
+    r: Reach,
+    mode: u32,
+    from: usize,
+    at: usize,
+    keep: &mut [u16],
+    flip: &mut [u16],
+)
+    requires { ⌜ (at + r .last < length (now keep)) × (at + r .last < length (now flip)) × (at ≤ 98303) ⌝ }
+    requires { ⌜ (r .last ≤ 255) × (1 ≤ r .last) ⌝ }
+    requires { ⌜ (from ≤ 17196646400) × (r .shift < 16) × (from + r .last + 1 < length (now font)) ⌝ }
+    ensures keep { λ o. ⌜ after keep ≡ rowDrawn (given font) r (modeOf 1) from at (r .last + 1) (given keep) ⌝ }
+    ensures flip { λ o. ⌜ after flip ≡ rowDrawn (given font) r (modeOf mode) from at (r .last + 1) (given flip) ⌝ }
+{
+    let mut mask = r.head;
+    let mut w = 0;
+    while w < r.last {
+        let dots = dots_from(font, from + w, r.shift) & mask;
+        mark(mode, dots, at + w, flip);
+        mark(ERASE, dots, at + w, keep);
+        mask = 0xFFFF;
+        w += 1;
+    }
+    let last = dots_from(font, from + w, r.shift) & r.tail;
+    mark(mode, last, at + w, flip);
+    mark(ERASE, last, at + w, keep);
+}
+
+// Such a picture, on the rows that it reaches.
+fn settle_wide(font: &[u16], r: Reach, mode: u32, keep: &mut [u16], flip: &mut [u16])
+    requires { ⌜ Within r (length (now keep)) × (1 ≤ r .last) ⌝ }
+    requires { ⌜ Within r (length (now flip)) ⌝ }
+    requires { ⌜ inFile r (length (now font)) ≡ true ⌝ }
+    ensures keep { λ o. ⌜ after keep ≡ rowsDrawn (given font) r (modeOf 1) (r .rows) (given keep) ⌝ }
+    ensures flip { λ o. ⌜ after flip ≡ rowsDrawn (given font) r (modeOf mode) (r .rows) (given flip) ⌝ }
+{
+    let mut from = r.source;
+    let mut at = r.at;
+    let mut row = 0;
+    while row < r.rows {
+        settle_line(font, r, mode, from, at, keep, flip);
+        from += r.raster;
+        at += r.rowwords;
+        row += 1;
     }
 }
 
-// Any other picture, joined so.
+// A picture in the file and in two words a row or more, joined by any mode.
 fn join_wide(font: &[u16], r: Reach, mode: u32, keep: &mut [u16], flip: &mut [u16])
+    requires { ⌜ Within r (length (now keep)) × (1 ≤ r .last) ⌝ }
+    requires { ⌜ Within r (length (now flip)) ⌝ }
+    requires { ⌜ inFile r (length (now font)) ≡ true ⌝ }
+    ensures keep { λ o. ⌜ after keep ≡ rowsKept (given font) r (modeOf mode) (given keep) ⌝ }
+    ensures flip { λ o. ⌜ after flip ≡ rowsDrawn (given font) r (modeOf mode) (r .rows) (given flip) ⌝ }
+{
+    if mode < 2 {
+        settle_wide(font, r, mode, keep, flip);
+        return;
+    }
+    draw_wide(font, r, mode, flip);
+}
+
+// A picture that does not lie in the file, joined by any mode.
+fn join_rows(font: &[u16], r: Reach, mode: u32, keep: &mut [u16], flip: &mut [u16])
+    requires { ⌜ Within r (length (now keep)) ⌝ }
+    requires { ⌜ Within r (length (now flip)) ⌝ }
+    ensures keep { λ o. ⌜ after keep ≡ rowsKept (given font) r (modeOf mode) (given keep) ⌝ }
+    ensures flip { λ o. ⌜ after flip ≡ rowsDrawn (given font) r (modeOf mode) (r .rows) (given flip) ⌝ }
+{
+    draw_rows(font, r, mode, flip);
+    if mode < 2 {
+        draw_rows(font, r, ERASE, keep);
+    }
+}
+
+// A picture that is not in one word a row, joined; or one that does not lie in the file.
+fn join_other(font: &[u16], r: Reach, mode: u32, keep: &mut [u16], flip: &mut [u16])
     requires { ⌜ Within r (length (now keep)) ⌝ }
     requires { ⌜ Within r (length (now flip)) ⌝ }
     requires { ⌜ narrowIn r (length (now font)) ≡ false ⌝ }
@@ -680,16 +797,10 @@ fn join_wide(font: &[u16], r: Reach, mode: u32, keep: &mut [u16], flip: &mut [u1
     ensures flip { λ o. ⌜ after flip ≡ rowsDrawn (given font) r (modeOf mode) (r .rows) (given flip) ⌝ }
 {
     if r.in_file(font.len()) {
-        draw_wide(font, r, mode, flip);
-        if mode < 2 {
-            draw_wide(font, r, 1, keep);
-        }
+        join_wide(font, r, mode, keep, flip);
         return;
     }
-    draw_rows(font, r, mode, flip);
-    if mode < 2 {
-        draw_rows(font, r, 1, keep);
-    }
+    join_rows(font, r, mode, keep, flip);
 }
 
 // A picture's effect joined onto a sheet.
@@ -710,7 +821,7 @@ fn join_picture(font: &[u16], g: Glyph, k: Stroke, pen: Pen, keep: &mut [u16], f
         join_narrow(font, reach, mode, keep, flip);
         return;
     }
-    join_wide(font, reach, mode, keep, flip);
+    join_other(font, reach, mode, keep, flip);
 }
 
 // The characters of a text, in order, joined onto a sheet. Hands back the pen after the last.

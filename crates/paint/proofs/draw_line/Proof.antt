@@ -7,14 +7,11 @@ use mathlib.Core.Bool.{cond}
 use mathlib.Core.List.{List}
 use native.Mathlib.Omega.{arith}
 use denote.Ref.{now}
-use lib.Bits.{bitAnd}
 use lib.Dec.{eqb}
-use lib.ListN.{length, length-set}
-use borrow.Author.Needs.{needs}
-use Rattle.words.specs.Word.{word}
-use Rattle.words.specs.Effect.{effectOf, modeOf, applyTo}
+use lib.ListN.{length}
+use Rattle.words.specs.Effect.{modeOf}
 use Rattle.paint.specs.Reach.{rowDrawn}
-use Rattle.paint.proofs.Drawing.{whole-mask, marks-before, marks-wide, word-more}
+use Rattle.paint.proofs.Drawing.{whole-mask, marks-before, marks-wide, word-more, row-room}
 use Rattle.paint.proofs.draw_line.Statement.{statement}
 use Rattle.paint.proofs.draw_line.Tie as tie
 
@@ -34,63 +31,21 @@ module _ (b : tie.At-loop Inv-loop μ-loop) where
   abbrev font : List ℕ
   font = now (call .args .font)
 
--- when a word of the row has been drawn, and when the last has
-module _ (c : tie.After-under Inv-loop μ-loop) where
-  abbrev turn : tie.At-loop Inv-loop μ-loop
-  turn = c .before .before .before .before .before .before .before
-
-module _ (c : tie.After-under2 Inv-loop μ-loop) where
-  abbrev end : tie.At-loop Inv-loop μ-loop
-  end = c .before .before .before .before .before .before .before .before
-
 loop-holds : tie.Need-loop-holds Inv-loop μ-loop
 unfolding rowDrawn
 loop-holds c = (omega arith, refl, refl, refl)
 
-add-two-words : tie.Need-add-two-words Inv-loop μ-loop
-add-two-words c = omega arith
+add-dots-from : tie.Need-add-dots-from Inv-loop μ-loop
+add-dots-from c = omega arith
 
-mul-two-words : tie.Need-mul-two-words Inv-loop μ-loop
-mul-two-words c = omega arith
+dots-from-requires : tie.Need-dots-from-requires Inv-loop μ-loop
+dots-from-requires c κs = (omega arith, omega arith, omega arith)
 
-shared-slice-read-two-words : tie.Need-shared-slice-read-two-words Inv-loop μ-loop
-shared-slice-read-two-words c = omega arith
+add-mark : tie.Need-add-mark Inv-loop μ-loop
+add-mark c = omega arith
 
-add-two-words-2 : tie.Need-add-two-words-2 Inv-loop μ-loop
-add-two-words-2 c = omega arith
-
-add-two-words-3 : tie.Need-add-two-words-3 Inv-loop μ-loop
-add-two-words-3 c = omega arith
-
-mul-two-words-2 : tie.Need-mul-two-words-2 Inv-loop μ-loop
-mul-two-words-2 c = omega arith
-
-shared-slice-read-two-words-2 : tie.Need-shared-slice-read-two-words-2 Inv-loop μ-loop
-shared-slice-read-two-words-2 c = omega arith
-
-two-words-requires : tie.Need-two-words-requires Inv-loop μ-loop
-two-words-requires c κs = omega arith
-
-add-under : tie.Need-add-under Inv-loop μ-loop
-add-under c = omega arith
-
-mul-under : tie.Need-mul-under Inv-loop μ-loop
-mul-under c = omega arith
-
-slice-read-under : tie.Need-slice-read-under Inv-loop μ-loop
-slice-read-under c = omega arith
-
-under-requires : tie.Need-under-requires Inv-loop μ-loop
-under-requires c κs = search needs
-
-add-lent : tie.Need-add-lent Inv-loop μ-loop
-add-lent c = omega arith
-
-mul-lent : tie.Need-mul-lent Inv-loop μ-loop
-mul-lent c = omega arith
-
-slice-write-lent : tie.Need-slice-write-lent Inv-loop μ-loop
-slice-write-lent c = omega arith
+mark-requires : tie.Need-mark-requires Inv-loop μ-loop
+mark-requires c κs = omega arith
 
 add-w : tie.Need-add-w Inv-loop μ-loop
 add-w c = omega arith
@@ -100,80 +55,47 @@ loop-less c = omega arith
 
 loop-again : tie.Need-loop-again Inv-loop μ-loop
 loop-again c =
-    let b = turn c in
+    let drew = c .before .before in
+    let looked = drew .before .before in
+    let b = looked .before .before .before in
     let a = call b .args in
     let w = b .loop .w in
-    let less = c .before .before .before .before .before .if1 .taken in
-    let marks =
-    ap (λ (n : ℕ). bitAnd n (b .loop .mask)) (c .before .before .two-words .ensures)
-    ∙ marks-before (font b) (a .r) (modeOf (a .mode)) (a .from) w (b .loop .mask) (b .loop .inv .2) less in
-    let becomes = c .under .ensures ∙ ap (λ (m : ℕ). applyTo (effectOf (modeOf (a .mode)) m) (word (b .loop .lent) (a .at + w))) marks in (
-      omega arith,
-      length-set (b .loop .lent) (a .at + w) (c .under .result) ∙ b .loop .inv .1,
-      whole-mask (a .r) w,
-      word-more (font b) (a .r) (modeOf (a .mode)) (a .from) (a .at) w _ (b .loop .lent) _ (b .loop .inv .3) becomes,
-    )
+    let own = modeOf (a .mode) in
+    let less = looked .before .if1 .taken in
+    let marks = marks-before (font b) (a .r) own (a .from) w (b .loop .mask) _ (b .loop .inv .2) (looked .dots-from .ensures) less in
+    let drawn = word-more (font b) (a .r) own (a .from) (a .at) w _ (b .loop .lent) _ _ (b .loop .inv .3) marks (drew .mark .ensures) in
+    (omega arith, row-room (font b) (a .r) own (a .from) (a .at) (w + 1) _ _ drawn, whole-mask (a .r) w, drawn)
 
-add-two-words-4 : tie.Need-add-two-words-4 Inv-loop μ-loop
-add-two-words-4 c = omega arith
+add-dots-from-2 : tie.Need-add-dots-from-2 Inv-loop μ-loop
+add-dots-from-2 c = omega arith
 
-mul-two-words-3 : tie.Need-mul-two-words-3 Inv-loop μ-loop
-mul-two-words-3 c = omega arith
+dots-from-requires-2 : tie.Need-dots-from-requires-2 Inv-loop μ-loop
+dots-from-requires-2 c κs = (omega arith, omega arith, omega arith)
 
-shared-slice-read-two-words-3 : tie.Need-shared-slice-read-two-words-3 Inv-loop μ-loop
-shared-slice-read-two-words-3 c = omega arith
+add-mark-2 : tie.Need-add-mark-2 Inv-loop μ-loop
+add-mark-2 c = omega arith
 
-add-two-words-5 : tie.Need-add-two-words-5 Inv-loop μ-loop
-add-two-words-5 c = omega arith
-
-add-two-words-6 : tie.Need-add-two-words-6 Inv-loop μ-loop
-add-two-words-6 c = omega arith
-
-mul-two-words-4 : tie.Need-mul-two-words-4 Inv-loop μ-loop
-mul-two-words-4 c = omega arith
-
-shared-slice-read-two-words-4 : tie.Need-shared-slice-read-two-words-4 Inv-loop μ-loop
-shared-slice-read-two-words-4 c = omega arith
-
-two-words-requires-2 : tie.Need-two-words-requires-2 Inv-loop μ-loop
-two-words-requires-2 c κs = omega arith
-
-add-under-2 : tie.Need-add-under-2 Inv-loop μ-loop
-add-under-2 c = omega arith
-
-mul-under-2 : tie.Need-mul-under-2 Inv-loop μ-loop
-mul-under-2 c = omega arith
-
-slice-read-under-2 : tie.Need-slice-read-under-2 Inv-loop μ-loop
-slice-read-under-2 c = omega arith
-
-under-requires-2 : tie.Need-under-requires-2 Inv-loop μ-loop
-under-requires-2 c κs = search needs
-
-add-lent-2 : tie.Need-add-lent-2 Inv-loop μ-loop
-add-lent-2 c = omega arith
-
-mul-lent-2 : tie.Need-mul-lent-2 Inv-loop μ-loop
-mul-lent-2 c = omega arith
-
-slice-write-lent-2 : tie.Need-slice-write-lent-2 Inv-loop μ-loop
-slice-write-lent-2 c = omega arith
-
-same-length : tie.Need-same-length Inv-loop μ-loop
-same-length c = length-set (end c .loop .lent) _ (c .under2 .result) ∙ end c .loop .inv .1
+mark-requires-2 : tie.Need-mark-requires-2 Inv-loop μ-loop
+mark-requires-2 c κs = omega arith
 
 returns : tie.Need-returns Inv-loop μ-loop
 returns c =
-    let b = end c in
+    let drew = c .before .before in
+    let looked = drew .before .before .before in
+    let b = looked .before .before .before in
     let a = call b .args in
     let w = b .loop .w in
+    let own = modeOf (a .mode) in
     let there : w ≡ a .r .last = omega arith in
-    let marks =
-    ap (λ (n : ℕ). bitAnd n (a .r .tail)) (c .before .before .before .two-words2 .ensures)
-    ∙ marks-wide (font b) (a .r) (modeOf (a .mode)) (a .from) w (b .loop .mask) (b .loop .inv .2) there (call b .pre .0 .3) in
-    let becomes = c .under2 .ensures ∙ ap (λ (m : ℕ). applyTo (effectOf (modeOf (a .mode)) m) (word (b .loop .lent) (a .at + w))) marks in
-    word-more (font b) (a .r) (modeOf (a .mode)) (a .from) (a .at) w _ (b .loop .lent) _ (b .loop .inv .3) becomes
-    ∙ ap (λ (n : ℕ). rowDrawn (font b) (a .r) (modeOf (a .mode)) (a .from) (a .at) (n + 1) (now (a .lent))) there
+    let marks = marks-wide (font b) (a .r) own (a .from) w (b .loop .mask) _ (b .loop .inv .2) (looked .dots-from2 .ensures) there (call b .pre .0 .3) in
+    word-more (font b) (a .r) own (a .from) (a .at) w _ (b .loop .lent) _ _ (b .loop .inv .3) marks (drew .mark2 .ensures)
+    ∙ ap (λ (n : ℕ). rowDrawn (font b) (a .r) own (a .from) (a .at) (n + 1) (now (a .lent))) there
+
+same-length : tie.Need-same-length Inv-loop μ-loop
+same-length c =
+    let b = c .before .before .before .before .before .before .before .before in
+    let a = call b .args in
+    row-room (font b) (a .r) (modeOf (a .mode)) (a .from) (a .at) (a .r .last + 1) _ _ (returns c)
 
 pub draw-line-spec : {M : Type 1} → statement M
 draw-line-spec =
@@ -182,38 +104,16 @@ draw-line-spec =
     Inv-loop
     μ-loop
     loop-holds
-    add-two-words
-    mul-two-words
-    shared-slice-read-two-words
-    add-two-words-2
-    add-two-words-3
-    mul-two-words-2
-    shared-slice-read-two-words-2
-    two-words-requires
-    add-under
-    mul-under
-    slice-read-under
-    under-requires
-    add-lent
-    mul-lent
-    slice-write-lent
+    add-dots-from
+    dots-from-requires
+    add-mark
+    mark-requires
     add-w
     loop-less
     loop-again
-    add-two-words-4
-    mul-two-words-3
-    shared-slice-read-two-words-3
-    add-two-words-5
-    add-two-words-6
-    mul-two-words-4
-    shared-slice-read-two-words-4
-    two-words-requires-2
-    add-under-2
-    mul-under-2
-    slice-read-under-2
-    under-requires-2
-    add-lent-2
-    mul-lent-2
-    slice-write-lent-2
+    add-dots-from-2
+    dots-from-requires-2
+    add-mark-2
+    mark-requires-2
     same-length
     returns)

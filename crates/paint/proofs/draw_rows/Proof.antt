@@ -1,8 +1,8 @@
 -- `paint::draw_rows` meets its contract. The invariant: the rows so far are drawn, and the next one begins in the panel and in the font so
 -- many rows further.
 -- Assumes nothing.
-use Prim.Native.Nat.{ℕ, _+_, _-_, _*_, _≤_, _<_}
-use mathlib.Core.Path.{_≡_, refl, ap, _∙_}
+use Prim.Native.Nat.{ℕ, _+_, _-_, _≤_, _<_}
+use mathlib.Core.Path.{_≡_, ap, _∙_}
 use mathlib.Core.List.{List}
 use native.Mathlib.Omega.{arith}
 use denote.Ref.{now}
@@ -10,15 +10,14 @@ use lib.ListN.{length}
 use Rattle.words.specs.Effect.{modeOf}
 use Rattle.paint.specs.declared.Reach.{Reach}
 use Rattle.paint.specs.Reach.{rowsDrawn}
-use Rattle.paint.proofs.Drawing.{row-inside, row-source, row-at, one-row-on, no-rows, nothing-drawn, row-length, row-more}
+use Rattle.paint.proofs.Drawing.{AtRow, at-first-row, at-next-row, row-inside, row-source, row-at}
+use Rattle.paint.proofs.Drawing.{nothing-drawn, rows-room, row-more}
 use Rattle.paint.proofs.draw_rows.Statement.{statement}
 use Rattle.paint.proofs.draw_rows.Tie as tie
 
 abbrev Inv-loop : tie.InvT-loop
 Inv-loop font r mode lent₀ from₀ at₀ row₀ lent from at row =
-    (row ≤ r .rows) × (length lent ≡ length lent₀)
-    × (from ≡ r .source + row * r .raster) × (at ≡ r .at + row * r .rowwords)
-    × (lent ≡ rowsDrawn font r (modeOf mode) row lent₀)
+    (row ≤ r .rows) × AtRow r row from at × (lent ≡ rowsDrawn font r (modeOf mode) row lent₀)
 
 abbrev μ-loop : tie.MeasureT-loop
 μ-loop font r mode lent₀ from₀ at₀ row₀ lent from at row = r .rows - row
@@ -34,21 +33,19 @@ module _ (b : tie.At-loop Inv-loop μ-loop) where
   abbrev font : List ℕ
   font = now (call .args .font)
 
-  abbrev room : ℕ
-  room = length (now (call .args .lent))
+  room : length (b .loop .lent) ≡ length (now (call .args .lent))
+  room = rows-room font r (modeOf (call .args .mode)) (b .loop .row) _ _ (b .loop .inv .2)
 
   -- and while there is a row
   module _ (less : b .loop .row < r .rows) where
     inside : b .loop .at + r .last < length (b .loop .lent)
-    inside =
-        let here = row-inside r (b .loop .row) less room (call .pre) in
-        omega (arith, b .loop .inv .1, b .loop .inv .3)
+    inside = let here = row-inside r _ _ _ (b .loop .inv .1) less _ (call .pre) in omega (arith, room)
 
     far : b .loop .from + r .raster ≤ 17196646400
-    far = let here = row-source r (b .loop .row) less room (call .pre) in omega (arith, b .loop .inv .2)
+    far = row-source r _ _ _ (b .loop .inv .1) less _ (call .pre)
 
     low : b .loop .at + r .rowwords ≤ 98303
-    low = let here = row-at r (b .loop .row) less room (call .pre) in omega (arith, b .loop .inv .3)
+    low = row-at r _ _ _ (b .loop .inv .1) less _ (call .pre)
 
 -- the row has been drawn
 module _ (c : tie.After-draw-row Inv-loop μ-loop) where
@@ -59,7 +56,7 @@ module _ (c : tie.After-draw-row Inv-loop μ-loop) where
   less = c .before .before .if1 .taken
 
 loop-holds : tie.Need-loop-holds Inv-loop μ-loop
-loop-holds c = (omega arith, refl, no-rows _ _, no-rows _ _, nothing-drawn _ _ _ _)
+loop-holds c = (omega arith, at-first-row (c .before .before .args .r), nothing-drawn _ _ _ _)
 
 draw-row-requires : tie.Need-draw-row-requires Inv-loop μ-loop
 draw-row-requires c κs =
@@ -88,21 +85,19 @@ loop-again c =
     let row = b .loop .row in
     let drawn = drew .draw-row .ensures in (
       omega (arith, less drew),
-      ap length drawn ∙ row-length (font b) (a .r) (modeOf (a .mode)) _ _ (a .r .last + 1) (b .loop .lent) ∙ b .loop .inv .1,
-      one-row-on _ (a .r .source) row (a .r .raster) (b .loop .inv .2),
-      one-row-on _ (a .r .at) row (a .r .rowwords) (b .loop .inv .3),
-      row-more (font b) (a .r) (modeOf (a .mode)) _ _ row (b .loop .lent) _ _ (b .loop .inv .4) (b .loop .inv .2) (b .loop .inv .3) drawn,
+      at-next-row (a .r) row _ _ (b .loop .inv .1),
+      row-more (font b) (a .r) (modeOf (a .mode)) _ _ row (b .loop .lent) _ _ (b .loop .inv .1) (b .loop .inv .2) drawn,
     )
 
 same-length : tie.Need-same-length Inv-loop μ-loop
-same-length c = c .before .before .loop .inv .1
+same-length c = room (c .before .before)
 
 returns : tie.Need-returns Inv-loop μ-loop
 returns c =
     let b = c .before .before in
     let a = call b .args in
     let there : b .loop .row ≡ a .r .rows = omega arith in
-    b .loop .inv .4 ∙ ap (λ (n : ℕ). rowsDrawn (font b) (a .r) (modeOf (a .mode)) n (now (a .lent))) there
+    b .loop .inv .2 ∙ ap (λ (n : ℕ). rowsDrawn (font b) (a .r) (modeOf (a .mode)) n (now (a .lent))) there
 
 pub draw-rows-spec : {M : Type 1} → statement M
 draw-rows-spec =

@@ -1,4 +1,4 @@
--- `paint::join_narrow` meets its contract: flip is drawn on by the mode, and keep by Erase where the mode clears.
+-- `paint::join_narrow` meets its contract: Paint and Erase clear keep, and Invert leaves it.
 -- Assumes nothing.
 use denote.Ref.{now}
 use Rattle.paint.proofs.Drawing.{keep-cleared, keep-stays}
@@ -6,11 +6,8 @@ use borrow.Author.Needs.{needs}
 use Rattle.paint.proofs.join_narrow.Statement.{statement}
 use Rattle.paint.proofs.join_narrow.Tie as tie
 
-draw-narrow-requires : tie.Need-draw-narrow-requires
-draw-narrow-requires c κs = search needs
-
-draw-narrow-requires-2 : tie.Need-draw-narrow-requires-2
-draw-narrow-requires-2 c κs = search needs
+settle-narrow-requires : tie.Need-settle-narrow-requires
+settle-narrow-requires c κs = search needs
 
 same-length : tie.Need-same-length
 same-length c = search needs
@@ -20,29 +17,32 @@ same-length-2 c = search needs
 
 returns : tie.Need-returns
 returns c =
-    let kept = c .before .before in
-    let drew = kept .before .before .before .before .before in
-    let a = drew .before .before .before .before .before .args in
-    let cleared = keep-cleared (now (a .font)) (a .r) _ (a .mode) _ (kept .before .before .if1 .taken) (kept .draw-narrow2 .ensures) in
-    (cleared, drew .draw-narrow .ensures)
+    let drew = c .before .before .before .before in
+    let test = drew .before .before .before in
+    let a = test .before .before .before .before .args in
+    (keep-cleared (now (a .font)) (a .r) _ (a .mode) _ (test .if1 .taken) (drew .settle-narrow .ensures .0), drew .settle-narrow .ensures .1)
+
+draw-narrow-requires : tie.Need-draw-narrow-requires
+draw-narrow-requires c κs = search needs
 
 same-length-3 : tie.Need-same-length-3
 same-length-3 c = search needs
 
 returns-2 : tie.Need-returns-2
 returns-2 c =
-    let drew = c .before .before .before in
-    let a = drew .before .before .before .before .before .args in
-    (keep-stays (now (a .font)) (a .r) _ (a .mode) (c .if1 .left), drew .draw-narrow .ensures)
+    let drew = c .before .before in
+    let test = drew .before .before in
+    let a = test .before .before .before .before .args in
+    (keep-stays (now (a .font)) (a .r) _ (a .mode) (test .if1 .left), drew .draw-narrow .ensures)
 
 pub join-narrow-spec : {M : Type 1} → statement M
 join-narrow-spec =
     tie.close
     (tie.spec
-    draw-narrow-requires
-    draw-narrow-requires-2
+    settle-narrow-requires
     same-length
     same-length-2
     returns
+    draw-narrow-requires
     same-length-3
     returns-2)

@@ -121,8 +121,8 @@ returns-2 c =
     let is = m .mode-number .ensures in
     (kept (known m) _ _ is (drew .join-narrow .ensures .0), flipped (known m) _ _ is (drew .join-narrow .ensures .1))
 
-join-wide-requires : tie.Need-join-wide-requires
-join-wide-requires c κs =
+join-other-requires : tie.Need-join-other-requires
+join-other-requires c κs =
     let test = c .before .before .before in
     let m = test .before in
     (lies-keep m, (lies-flip m, sym (test .narrow .ensures) ∙ c .before .before .if2 .left))
@@ -138,7 +138,7 @@ returns-3 c =
     let drew = c .before .before .before .before in
     let m = drew .before .before .before .before .before in
     let is = m .mode-number .ensures in
-    (kept (known m) _ _ is (drew .join-wide .ensures .0), flipped (known m) _ _ is (drew .join-wide .ensures .1))
+    (kept (known m) _ _ is (drew .join-other .ensures .0), flipped (known m) _ _ is (drew .join-other .ensures .1))
 
 pub join-picture-spec : {M : Type 1} → statement M
 join-picture-spec =
@@ -152,7 +152,7 @@ join-picture-spec =
     same-length
     same-length-2
     returns-2
-    join-wide-requires
+    join-other-requires
     same-length-3
     same-length-4
     returns-3)

@@ -91,8 +91,8 @@ returns-2 c =
     let m = drew .before .before .before .before in
     drawn (known m) _ _ (m .mode-number .ensures) (drew .draw-narrow .ensures)
 
-paint-wide-requires : tie.Need-paint-wide-requires
-paint-wide-requires c κs =
+paint-other-requires : tie.Need-paint-other-requires
+paint-other-requires c κs =
     let test = c .before .before in
     (lies-here (test .before), sym (test .narrow .ensures) ∙ c .before .if2 .left)
 
@@ -103,7 +103,7 @@ returns-3 : tie.Need-returns-3
 returns-3 c =
     let drew = c .before .before in
     let m = drew .before .before .before .before in
-    drawn (known m) _ _ (m .mode-number .ensures) (drew .paint-wide .ensures)
+    drawn (known m) _ _ (m .mode-number .ensures) (drew .paint-other .ensures)
 
 pub paint-picture-spec : {M : Type 1} → statement M
 paint-picture-spec =
@@ -116,6 +116,6 @@ paint-picture-spec =
     draw-narrow-requires
     same-length
     returns-2
-    paint-wide-requires
+    paint-other-requires
     same-length-2
     returns-3)

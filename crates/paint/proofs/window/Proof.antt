@@ -14,23 +14,8 @@ use Rattle.paint.proofs.window.Tie as tie
 add-if1 : tie.Need-add-if1
 add-if1 c = search needs
 
-mul-two-words : tie.Need-mul-two-words
-mul-two-words c = search needs
-
-shared-slice-read-two-words : tie.Need-shared-slice-read-two-words
-shared-slice-read-two-words c = search needs
-
-add-two-words : tie.Need-add-two-words
-add-two-words c = search needs
-
-mul-two-words-2 : tie.Need-mul-two-words-2
-mul-two-words-2 c = search needs
-
-shared-slice-read-two-words-2 : tie.Need-shared-slice-read-two-words-2
-shared-slice-read-two-words-2 c = search needs
-
-two-words-requires : tie.Need-two-words-requires
-two-words-requires c κs = search needs
+dots-from-requires : tie.Need-dots-from-requires
+dots-from-requires c κs = search needs
 
 returns : tie.Need-returns
 returns c = search needs
@@ -38,28 +23,17 @@ returns c = search needs
 word-at-requires : tie.Need-word-at-requires
 word-at-requires c κs = search needs
 
-two-words-requires-2 : tie.Need-two-words-requires-2
-two-words-requires-2 c κs = search needs
+two-words-requires : tie.Need-two-words-requires
+two-words-requires c κs = search needs
 
 returns-2 : tie.Need-returns-2
 returns-2 c =
     let a = c .before .before .before .before .args in
     let past : word (now (a .font)) (a .i + 1) ≡ 0 = List·getD-eq-default (now (a .font)) 0 (omega arith) in
-    c .two-words2 .ensures
+    c .two-words .ensures
     ∙ ap₂ (λ (high low : ℕ). twoWords high low (a .shift)) (c .before .word-at .ensures) (sym past)
 
 pub window-spec : {M : Type 1} → statement M
 window-spec =
     tie.close
-    (tie.spec
-    add-if1
-    mul-two-words
-    shared-slice-read-two-words
-    add-two-words
-    mul-two-words-2
-    shared-slice-read-two-words-2
-    two-words-requires
-    returns
-    word-at-requires
-    two-words-requires-2
-    returns-2)
+    (tie.spec add-if1 dots-from-requires returns word-at-requires two-words-requires returns-2)

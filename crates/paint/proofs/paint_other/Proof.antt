@@ -1,12 +1,12 @@
--- `paint::paint_wide` meets its contract: the picture lies in the file, or it does not.
+-- `paint::paint_other` meets its contract: the picture lies in the file, or it does not.
 -- Assumes nothing.
 use mathlib.Core.Path.{sym, _∙_}
 use denote.Ref.{now}
 use lib.ListN.{length}
 use Rattle.paint.proofs.Drawing.{wide-last}
 use borrow.Author.Needs.{needs}
-use Rattle.paint.proofs.paint_wide.Statement.{statement}
-use Rattle.paint.proofs.paint_wide.Tie as tie
+use Rattle.paint.proofs.paint_other.Statement.{statement}
+use Rattle.paint.proofs.paint_other.Tie as tie
 
 in-file-requires : tie.Need-in-file-requires
 in-file-requires c κs = search needs
@@ -33,8 +33,8 @@ same-length-2 c = search needs
 returns-2 : tie.Need-returns-2
 returns-2 c = search needs
 
-pub paint-wide-spec : {M : Type 1} → statement M
-paint-wide-spec =
+pub paint-other-spec : {M : Type 1} → statement M
+paint-other-spec =
     tie.close
     (tie.spec
     in-file-requires
