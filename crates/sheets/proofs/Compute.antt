@@ -6,8 +6,6 @@ use Rattle.sheets.specs.Cases.{sheetFrom, done, smallCu, smallFont}
 use Rattle.sheets.specs.Fonts.{shown, held, measured, paintedOn, painted, gathered, printed}
 use Rattle.sheets.specs.Fonts.{plainFont, bareFont, emptyFont, plainWide, kernedWide, kernedRight, kernedBare}
 use Rattle.sheets.specs.Fonts.{wideCu, wideWritten, fixedCu, fixedWritten, speltCases, plainCases, blobCases, wideCases, writtenCases}
-use Rattle.sheets.specs.Edges.{font, painted as paintedAtEdge, gathered as gatheredAtEdge}
-use Rattle.sheets.specs.Edges.{oneWide, fifteenWide, sixteenWide, seventeenWide, thirtyThreeWide, twoRows, onSheets}
 use Rattle.paint.proofs.Compute.{computing as below}
 
 unfoldable pub calls : Unit {0}
@@ -22,12 +20,8 @@ unfoldable pub seen : Unit {0}
 unfolding shown held measured paintedOn painted gathered printed
 seen = tt
 
-unfoldable pub edges : Unit {0}
-unfolding font paintedAtEdge gatheredAtEdge oneWide fifteenWide sixteenWide seventeenWide thirtyThreeWide twoRows onSheets
-edges = tt
-
 unfoldable pub tables : Unit {0}
-unfolding speltCases plainCases blobCases wideCases writtenCases edges
+unfolding speltCases plainCases blobCases wideCases writtenCases
 tables = tt
 
 unfoldable pub computing : Unit {0}

@@ -2,7 +2,6 @@ pub mod Compute
 pub mod Cases
 pub mod Tables
 pub mod Fonts
-pub mod Edges
 pub mod Done
 pub mod Gathering
 pub mod Effects

@@ -2,4 +2,3 @@ pub mod Sheet
 pub mod Calls
 pub mod Cases
 pub mod Fonts
-pub mod Edges

@@ -1,9 +1,9 @@
 -- What is painted and gathered at the edges holds of the definitions: antt computes both sides of the table.
 use mathlib.Core.Path.{_≡_, refl}
 use mathlib.Core.List.{map}
-use Rattle.sheets.specs.Edges.{oneWide, fifteenWide, sixteenWide, seventeenWide, thirtyThreeWide, twoRows, onSheets, edges}
-use Rattle.sheets.proofs.Compute.{computing}
+use Rattle.claims.specs.Edges.{oneWide, fifteenWide, sixteenWide, seventeenWide, thirtyThreeWide, twoRows, onSheets, edges}
+use Rattle.claims.proofs.Compute.{computing}
 use Rattle.sheets.proofs.Tables.{Hold, both-hold}
 
 one-hold : Hold oneWide
 unfolding Hold computing

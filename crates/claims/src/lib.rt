@@ -1,0 +1,1 @@
+// Nothing is done here: this crate holds what is claimed of the whole library and computed from its definitions.
