@@ -3,7 +3,7 @@ use mathlib.Core.Path.{_≡_, refl}
 use mathlib.Core.List.{map}
 use Rattle.claims.specs.Edges.{oneWide, fifteenWide, sixteenWide, seventeenWide, thirtyThreeWide, twoRows, onSheets, edges}
 use Rattle.claims.proofs.Compute.{computing}
-use Rattle.sheets.proofs.Tables.{Hold, both-hold}
+use Rattle.claims.proofs.Tables.{Hold, both-hold}
 
 one-hold : Hold oneWide
 unfolding Hold computing

@@ -1,2 +1,6 @@
 pub mod Compute
+pub mod Tables
+pub mod Cases
+pub mod Fonts
 pub mod Edges
+pub mod Limits

@@ -10,7 +10,7 @@ use Rattle.paint.specs.Panel.{panelWords}
 use Rattle.paint.specs.Label.{Call, callOf, replyOf, paintAfter}
 use Rattle.paint.specs.Sheet.{Sheet}
 use Rattle.sheets.specs.Sheet.{gatherAfter}
-use Rattle.sheets.specs.Cases.{Outcome, paints, gathers, ends}
+use Rattle.claims.specs.Cases.{Outcome, paints, gathers, ends}
 
 -- Panels for pictures of 1, of 15 to 17 and of 33 columns. W is so large that such a picture ends inside the strip where it begins at
 -- column 1, R is the least that is accepted, and the larger ones have one row, so that all of this is computed in seconds; `deep` has two.

@@ -1,1 +1,4 @@
+pub mod Cases
+pub mod Fonts
 pub mod Edges
+pub mod Limits

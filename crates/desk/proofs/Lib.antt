@@ -1,4 +1,3 @@
 pub mod Words
-pub mod Compute
 pub mod Limits
 pub mod Outcomes

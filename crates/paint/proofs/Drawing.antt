@@ -16,7 +16,7 @@ use Rattle.words.specs.Effect.{modeOf}
 use Rattle.words.proofs.BitLaws.{and-assoc, and-ones}
 use Rattle.words.proofs.Passed.{both}
 use Rattle.paint.specs.declared.Reach.{Reach}
-use Rattle.paint.specs.Reach.{window, rowMarks, marked, rowDrawn, rowsDrawn, rowsKept, inFile, narrowIn, Within}
+use Rattle.paint.specs.Reach.{window, rowMarks, marked, rowDrawn, rowsDrawn, rowsKept, inFile, spansIn, Within}
 
 -- ---- where a loop over the rows of a reach is
 
@@ -69,16 +69,16 @@ pub nothing-drawn : (font : List ℕ) (r : Reach) (mode : Mode) (lent : List ℕ
 unfolding rowsDrawn
 nothing-drawn font r mode lent = refl
 
--- one word a row, and in the file
-pub narrow-tests : (r : Reach) (words : ℕ) → narrowIn r words ≡ true → (r .last ≡ 0) × (inFile r words ≡ true)
-unfolding narrowIn
-narrow-tests r words narrow =
-    let tests = both (eqb (r .last) 0) (inFile r words) narrow in
-    (eqb-true (r .last) 0 (tests .0), tests .1)
+-- so many words behind the first, and in the file
+pub span-tests : (r : Reach) (last words : ℕ) → spansIn r last words ≡ true → (r .last ≡ last) × (inFile r words ≡ true)
+unfolding spansIn
+span-tests r last words spans =
+    let tests = both (eqb (r .last) last) (inFile r words) spans in
+    (eqb-true (r .last) last (tests .0), tests .1)
 
 -- in the file, and not in one word a row
-pub wide-last : (r : Reach) (words : ℕ) → narrowIn r words ≡ false → inFile r words ≡ true → 1 ≤ r .last
-unfolding narrowIn
+pub wide-last : (r : Reach) (words : ℕ) → spansIn r 0 words ≡ false → inFile r words ≡ true → 1 ≤ r .last
+unfolding spansIn
 wide-last r words other there = by-last (eqb (r .last) 0) refl other
   where
     by-last : (t : Bool) → eqb (r .last) 0 ≡ t → (t && inFile r words) ≡ false → 1 ≤ r .last
@@ -159,6 +159,21 @@ module _ (font : List ℕ) (r : Reach) (mode : Mode) where
       let first = drew ∙ ap (λ (i : ℕ). marked mode marks i now) (sym (add-zero at)) in
       let one = word-more from at 0 marks now next now refl (marks-narrow from dots read alone) first in
       row-more from at row now next lent here same (one ∙ ap (λ (n : ℕ). rowDrawn font r mode from at (n + 1) now) (sym alone))
+
+  -- a row of two words
+  pub two-drawn : (from at one two : ℕ) (lent now next : List ℕ) → one ≡ window font from (r .shift)
+      → two ≡ window font (from + 1) (r .shift) → r .last ≡ 1
+      → now ≡ marked mode (bitAnd one (r .head)) at lent → next ≡ marked mode (bitAnd two (r .tail)) (at + 1) now
+      → next ≡ rowDrawn font r mode from at (r .last + 1) lent
+  unfolding rowDrawn
+  two-drawn from at one two lent now next read-one read-two pair drew-one drew-two =
+      let read = read-one ∙ ap (λ (i : ℕ). window font i (r .shift)) (sym (add-zero from)) in
+      let less : 0 < r .last = omega arith in
+      let first = drew-one ∙ ap (λ (i : ℕ). marked mode (bitAnd one (r .head)) i lent) (sym (add-zero at)) in
+      let begun = word-more from at 0 _ lent now lent refl (marks-before from 0 (r .head) one refl read less) first in
+      let last = marks-wide from 1 0xFFFF two (whole-mask r 0) read-two (sym pair) (omega arith) in
+      word-more from at 1 _ now next lent begun last drew-two
+      ∙ ap (λ (n : ℕ). rowDrawn font r mode from at (n + 1) lent) (sym pair)
 
   pub nothing-kept : (lent : List ℕ) → r .rows ≡ 0 → lent ≡ rowsKept font r mode lent
   unfolding rowsKept

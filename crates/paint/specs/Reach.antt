@@ -107,9 +107,9 @@ rowsKept font r Invert lent = lent
 unfoldable pub inFile : Reach → ℕ → Bool
 inFile r words = ltb (r .source + (r .rows - 1) * r .raster + r .last + 1) words
 
--- so, and in one word a row
-unfoldable pub narrowIn : Reach → ℕ → Bool
-narrowIn r words = eqb (r .last) 0 && inFile r words
+-- so, and with so many words of each row behind the first
+unfoldable pub spansIn : Reach → ℕ → ℕ → Bool
+spansIn r last words = eqb (r .last) last && inFile r words
 
 -- how far the dots of any glyph lie in a font
 abbrev pub Nearby : Reach → Type 0

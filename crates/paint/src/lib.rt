@@ -23,7 +23,7 @@ ghost use Rattle.paint.specs.Panel.{panelWords, stripOf, badShape, badPa
 ghost use Rattle.paint.specs.Pen.{penAt, penAfter, penAlong, speltSteps, stepsOf, farthest, Starting, Near};
 ghost use Rattle.paint.specs.Pen.{strokeOf, strokeWords, Drawable};
 ghost use Rattle.paint.specs.Pen.{onPanel, pictureEffect, labelEffect};
-ghost use Rattle.paint.specs.Reach.{shared, fromColumn, uptoColumn, reachOver, reachOf, inFile, narrowIn, twoWords, window};
+ghost use Rattle.paint.specs.Reach.{shared, fromColumn, uptoColumn, reachOver, reachOf, inFile, spansIn, twoWords, window};
 ghost use Rattle.paint.specs.Reach.{marked, rowDrawn, rowsDrawn, rowsKept, Nearby, Within};
 ghost use Rattle.paint.specs.Sheet.{sheetOf, lengthsOf};
 ghost use Rattle.paint.specs.declared.Reply.the-variants.{Done};
@@ -439,13 +439,13 @@ impl Reach {
         self.source + (self.rows - 1) * self.raster + self.last + 1 < words
     }
 
-    // So, and in one word a row.
-    fn narrow(self, words: usize) -> bool
+    // So, and in each row it has so many words behind the first.
+    fn spans(self, last: usize, words: usize) -> bool
         requires { ⌜ (1 ≤ self .rows) × (self .rows ≤ 256) × (self .last ≤ 255) ⌝ }
         requires { ⌜ (self .source ≤ 17179869184) × (self .raster ≤ 65535) ⌝ }
-        ensures { λ r. ⌜ r ≡ narrowIn self words ⌝ }
+        ensures { λ r. ⌜ r ≡ spansIn self last words ⌝ }
     {
-        if self.last != 0 {
+        if self.last != last {
             return false;
         }
         self.in_file(words)
@@ -535,7 +535,7 @@ fn mark(mode: u32, mask: u16, i: usize, lent: &mut [u16])
 // A picture in one word a row, on the rows that it reaches.
 fn draw_narrow(font: &[u16], r: Reach, mode: u32, lent: &mut [u16])
     requires { ⌜ Within r (length (now lent)) ⌝ }
-    requires { ⌜ narrowIn r (length (now font)) ≡ true ⌝ }
+    requires { ⌜ spansIn r 0 (length (now font)) ≡ true ⌝ }
     ensures { λ o. ⌜ after lent ≡ rowsDrawn (given font) r (modeOf mode) (r .rows) (given lent) ⌝ }
 {
     let mask = r.head & r.tail;
@@ -545,6 +545,35 @@ fn draw_narrow(font: &[u16], r: Reach, mode: u32, lent: &mut [u16])
     while row < r.rows {
         let dots = dots_from(font, from, r.shift) & mask;
         mark(mode, dots, at, lent);
+        from += r.raster;
+        at += r.rowwords;
+        row += 1;
+    }
+}
+
+// One row of a picture in two words a row.
+fn draw_two(font: &[u16], r: Reach, mode: u32, from: usize, at: usize, lent: &mut [u16])
+    requires { ⌜ (at + r .last < length (now lent)) × (at ≤ 98303) × (r .last ≡ 1) ⌝ }
+    requires { ⌜ (from ≤ 17196646400) × (r .shift < 16) × (from + r .last + 1 < length (now font)) ⌝ }
+    ensures { λ o. ⌜ after lent ≡ rowDrawn (given font) r (modeOf mode) from at (r .last + 1) (given lent) ⌝ }
+{
+    let first = dots_from(font, from, r.shift) & r.head;
+    mark(mode, first, at, lent);
+    let last = dots_from(font, from + 1, r.shift) & r.tail;
+    mark(mode, last, at + 1, lent);
+}
+
+// A picture in two words a row, as a character is that begins in one word and ends in the next, on the rows that it reaches.
+fn draw_pair(font: &[u16], r: Reach, mode: u32, lent: &mut [u16])
+    requires { ⌜ Within r (length (now lent)) ⌝ }
+    requires { ⌜ spansIn r 1 (length (now font)) ≡ true ⌝ }
+    ensures { λ o. ⌜ after lent ≡ rowsDrawn (given font) r (modeOf mode) (r .rows) (given lent) ⌝ }
+{
+    let mut from = r.source;
+    let mut at = r.at;
+    let mut row = 0;
+    while row < r.rows {
+        draw_two(font, r, mode, from, at, lent);
         from += r.raster;
         at += r.rowwords;
         row += 1;
@@ -623,9 +652,13 @@ fn draw_rows(font: &[u16], r: Reach, mode: u32, lent: &mut [u16])
 // A picture that is not in one word a row, painted; or one that does not lie in the file.
 fn paint_other(font: &[u16], r: Reach, mode: u32, panel: &mut [u16])
     requires { ⌜ Within r (length (now panel)) ⌝ }
-    requires { ⌜ narrowIn r (length (now font)) ≡ false ⌝ }
+    requires { ⌜ spansIn r 0 (length (now font)) ≡ false ⌝ }
     ensures { λ o. ⌜ after panel ≡ rowsDrawn (given font) r (modeOf mode) (r .rows) (given panel) ⌝ }
 {
+    if r.spans(1, font.len()) {
+        draw_pair(font, r, mode, panel);
+        return;
+    }
     if r.in_file(font.len()) {
         draw_wide(font, r, mode, panel);
         return;
@@ -645,7 +678,7 @@ fn paint_picture(font: &[u16], g: Glyph, k: Stroke, pen: Pen, panel: &mut [u16])
     }
     let own = k.mode;
     let mode = mode_number(own);
-    if reach.narrow(font.len()) {
+    if reach.spans(0, font.len()) {
         draw_narrow(font, reach, mode, panel);
         return;
     }
@@ -678,7 +711,7 @@ fn paint_text(font: &[u16], v: View, k: Stroke, start: Pen, text: &[u8], panel: 
 fn settle_narrow(font: &[u16], r: Reach, mode: u32, keep: &mut [u16], flip: &mut [u16])
     requires { ⌜ Within r (length (now keep)) ⌝ }
     requires { ⌜ Within r (length (now flip)) ⌝ }
-    requires { ⌜ narrowIn r (length (now font)) ≡ true ⌝ }
+    requires { ⌜ spansIn r 0 (length (now font)) ≡ true ⌝ }
     ensures keep { λ o. ⌜ after keep ≡ rowsDrawn (given font) r (modeOf 1) (r .rows) (given keep) ⌝ }
     ensures flip { λ o. ⌜ after flip ≡ rowsDrawn (given font) r (modeOf mode) (r .rows) (given flip) ⌝ }
 {
@@ -700,7 +733,7 @@ fn settle_narrow(font: &[u16], r: Reach, mode: u32, keep: &mut [u16], flip: &mut
 fn join_narrow(font: &[u16], r: Reach, mode: u32, keep: &mut [u16], flip: &mut [u16])
     requires { ⌜ Within r (length (now keep)) ⌝ }
     requires { ⌜ Within r (length (now flip)) ⌝ }
-    requires { ⌜ narrowIn r (length (now font)) ≡ true ⌝ }
+    requires { ⌜ spansIn r 0 (length (now font)) ≡ true ⌝ }
     ensures keep { λ o. ⌜ after keep ≡ rowsKept (given font) r (modeOf mode) (given keep) ⌝ }
     ensures flip { λ o. ⌜ after flip ≡ rowsDrawn (given font) r (modeOf mode) (r .rows) (given flip) ⌝ }
 {
@@ -709,6 +742,63 @@ fn join_narrow(font: &[u16], r: Reach, mode: u32, keep: &mut [u16], flip: &mut [
         return;
     }
     draw_narrow(font, r, mode, flip);
+}
+
+// One row of a picture in two words a row, joined so by Paint or Erase.
+fn settle_two(
+    font: &[u16],
+    r: Reach,
+    mode: u32,
+    from: usize,
+    at: usize,
+    keep: &mut [u16],
+    flip: &mut [u16],
+)
+    requires { ⌜ (at + r .last < length (now keep)) × (at + r .last < length (now flip)) × (at ≤ 98303) × (r .last ≡ 1) ⌝ }
+    requires { ⌜ (from ≤ 17196646400) × (r .shift < 16) × (from + r .last + 1 < length (now font)) ⌝ }
+    ensures keep { λ o. ⌜ after keep ≡ rowDrawn (given font) r (modeOf 1) from at (r .last + 1) (given keep) ⌝ }
+    ensures flip { λ o. ⌜ after flip ≡ rowDrawn (given font) r (modeOf mode) from at (r .last + 1) (given flip) ⌝ }
+{
+    let first = dots_from(font, from, r.shift) & r.head;
+    mark(mode, first, at, flip);
+    mark(ERASE, first, at, keep);
+    let last = dots_from(font, from + 1, r.shift) & r.tail;
+    mark(mode, last, at + 1, flip);
+    mark(ERASE, last, at + 1, keep);
+}
+
+// Such a picture, on the rows that it reaches.
+fn settle_pair(font: &[u16], r: Reach, mode: u32, keep: &mut [u16], flip: &mut [u16])
+    requires { ⌜ Within r (length (now keep)) ⌝ }
+    requires { ⌜ Within r (length (now flip)) ⌝ }
+    requires { ⌜ spansIn r 1 (length (now font)) ≡ true ⌝ }
+    ensures keep { λ o. ⌜ after keep ≡ rowsDrawn (given font) r (modeOf 1) (r .rows) (given keep) ⌝ }
+    ensures flip { λ o. ⌜ after flip ≡ rowsDrawn (given font) r (modeOf mode) (r .rows) (given flip) ⌝ }
+{
+    let mut from = r.source;
+    let mut at = r.at;
+    let mut row = 0;
+    while row < r.rows {
+        settle_two(font, r, mode, from, at, keep, flip);
+        from += r.raster;
+        at += r.rowwords;
+        row += 1;
+    }
+}
+
+// A picture in two words a row, joined by any mode.
+fn join_pair(font: &[u16], r: Reach, mode: u32, keep: &mut [u16], flip: &mut [u16])
+    requires { ⌜ Within r (length (now keep)) ⌝ }
+    requires { ⌜ Within r (length (now flip)) ⌝ }
+    requires { ⌜ spansIn r 1 (length (now font)) ≡ true ⌝ }
+    ensures keep { λ o. ⌜ after keep ≡ rowsKept (given font) r (modeOf mode) (given keep) ⌝ }
+    ensures flip { λ o. ⌜ after flip ≡ rowsDrawn (given font) r (modeOf mode) (r .rows) (given flip) ⌝ }
+{
+    if mode < 2 {
+        settle_pair(font, r, mode, keep, flip);
+        return;
+    }
+    draw_pair(font, r, mode, flip);
 }
 
 // One row of a picture in two words a row or more, joined so by Paint or Erase.
@@ -792,10 +882,14 @@ fn join_rows(font: &[u16], r: Reach, mode: u32, keep: &mut [u16], flip: &mut [u1
 fn join_other(font: &[u16], r: Reach, mode: u32, keep: &mut [u16], flip: &mut [u16])
     requires { ⌜ Within r (length (now keep)) ⌝ }
     requires { ⌜ Within r (length (now flip)) ⌝ }
-    requires { ⌜ narrowIn r (length (now font)) ≡ false ⌝ }
+    requires { ⌜ spansIn r 0 (length (now font)) ≡ false ⌝ }
     ensures keep { λ o. ⌜ after keep ≡ rowsKept (given font) r (modeOf mode) (given keep) ⌝ }
     ensures flip { λ o. ⌜ after flip ≡ rowsDrawn (given font) r (modeOf mode) (r .rows) (given flip) ⌝ }
 {
+    if r.spans(1, font.len()) {
+        join_pair(font, r, mode, keep, flip);
+        return;
+    }
     if r.in_file(font.len()) {
         join_wide(font, r, mode, keep, flip);
         return;
@@ -817,7 +911,7 @@ fn join_picture(font: &[u16], g: Glyph, k: Stroke, pen: Pen, keep: &mut [u16], f
     }
     let own = k.mode;
     let mode = mode_number(own);
-    if reach.narrow(font.len()) {
+    if reach.spans(0, font.len()) {
         join_narrow(font, reach, mode, keep, flip);
         return;
     }

@@ -1,7 +1,4 @@
 pub mod Compute
-pub mod Cases
-pub mod Tables
-pub mod Fonts
 pub mod Done
 pub mod Gathering
 pub mod Effects

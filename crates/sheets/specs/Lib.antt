@@ -1,4 +1,2 @@
 pub mod Sheet
 pub mod Calls
-pub mod Cases
-pub mod Fonts

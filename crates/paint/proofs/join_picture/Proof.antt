@@ -99,14 +99,14 @@ returns c =
 mode-number-requires : tie.Need-mode-number-requires
 mode-number-requires c κs = search needs
 
-narrow-requires : tie.Need-narrow-requires
-narrow-requires c κs = let inside = lies-keep c in ((inside .0, inside .1, inside .2), (inside .5, inside .6))
+spans-requires : tie.Need-spans-requires
+spans-requires c κs = let inside = lies-keep c in ((inside .0, inside .1, inside .2), (inside .5, inside .6))
 
 join-narrow-requires : tie.Need-join-narrow-requires
 join-narrow-requires c κs =
     let test = c .before .before .before in
     let m = test .before in
-    (lies-keep m, (lies-flip m, sym (test .narrow .ensures) ∙ c .before .before .if2 .taken))
+    (lies-keep m, (lies-flip m, sym (test .spans .ensures) ∙ c .before .before .if2 .taken))
 
 same-length : tie.Need-same-length
 same-length c = search needs
@@ -125,7 +125,7 @@ join-other-requires : tie.Need-join-other-requires
 join-other-requires c κs =
     let test = c .before .before .before in
     let m = test .before in
-    (lies-keep m, (lies-flip m, sym (test .narrow .ensures) ∙ c .before .before .if2 .left))
+    (lies-keep m, (lies-flip m, sym (test .spans .ensures) ∙ c .before .before .if2 .left))
 
 same-length-3 : tie.Need-same-length-3
 same-length-3 c = search needs
@@ -147,7 +147,7 @@ join-picture-spec =
     of-requires
     returns
     mode-number-requires
-    narrow-requires
+    spans-requires
     join-narrow-requires
     same-length
     same-length-2

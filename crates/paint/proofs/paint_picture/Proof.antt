@@ -74,13 +74,13 @@ returns c =
 mode-number-requires : tie.Need-mode-number-requires
 mode-number-requires c κs = search needs
 
-narrow-requires : tie.Need-narrow-requires
-narrow-requires c κs = let inside = lies-here c in ((inside .0, inside .1, inside .2), (inside .5, inside .6))
+spans-requires : tie.Need-spans-requires
+spans-requires c κs = let inside = lies-here c in ((inside .0, inside .1, inside .2), (inside .5, inside .6))
 
 draw-narrow-requires : tie.Need-draw-narrow-requires
 draw-narrow-requires c κs =
     let test = c .before .before in
-    (lies-here (test .before), sym (test .narrow .ensures) ∙ c .before .if2 .taken)
+    (lies-here (test .before), sym (test .spans .ensures) ∙ c .before .if2 .taken)
 
 same-length : tie.Need-same-length
 same-length c = search needs
@@ -94,7 +94,7 @@ returns-2 c =
 paint-other-requires : tie.Need-paint-other-requires
 paint-other-requires c κs =
     let test = c .before .before in
-    (lies-here (test .before), sym (test .narrow .ensures) ∙ c .before .if2 .left)
+    (lies-here (test .before), sym (test .spans .ensures) ∙ c .before .if2 .left)
 
 same-length-2 : tie.Need-same-length-2
 same-length-2 c = search needs
@@ -112,7 +112,7 @@ paint-picture-spec =
     of-requires
     returns
     mode-number-requires
-    narrow-requires
+    spans-requires
     draw-narrow-requires
     same-length
     returns-2

@@ -4,11 +4,11 @@ use mathlib.Core.List.{[], _∷_, _++_, map}
 use lib.ListN.{replicate}
 use Rattle.words.specs.Word.{bytesOf}
 use Rattle.convert.specs.Conversion.{outputAfter}
-use Rattle.sheets.specs.Cases.{prints}
-use Rattle.sheets.specs.Fonts.{Seen, holds, comes, printed, wideCu, wideWritten, fixedCu, fixedWritten}
-use Rattle.sheets.specs.Fonts.{speltCases, plainCases, blobCases, wideCases, writtenCases, fontCases}
-use Rattle.sheets.proofs.Compute.{computing}
-use Rattle.sheets.proofs.Tables.{Hold, both-hold}
+use Rattle.claims.specs.Cases.{prints}
+use Rattle.claims.specs.Fonts.{Seen, holds, comes, printed, wideCu, wideWritten, fixedCu, fixedWritten}
+use Rattle.claims.specs.Fonts.{speltCases, plainCases, blobCases, wideCases, writtenCases, fontCases}
+use Rattle.claims.proofs.Compute.{computing}
+use Rattle.claims.proofs.Tables.{Hold, both-hold}
 
 plain-hold : Hold plainCases
 unfolding Hold computing

@@ -13,8 +13,8 @@ use Rattle.paint.specs.declared.Shape.{Shape}
 use Rattle.paint.specs.declared.Reply.{Reply}
 use Rattle.paint.specs.Label.{callOf, replyOf, paintAfter, measureOf, measureFile}
 use Rattle.paint.specs.Sheet.{Sheet}
 use Rattle.sheets.specs.Sheet.{gatherAfter}
-use Rattle.sheets.specs.Cases.{Outcome, prints, paints, gathers, ends}
+use Rattle.claims.specs.Cases.{Outcome, prints, paints, gathers, ends}
 
 -- What a font shows for a code: the picture's columns, where its left column goes from the pen, how far the pen moves, whether the dummy
 -- stood in, and its rows, sixteen dots of each, the top row first.

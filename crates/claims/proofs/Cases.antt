@@ -1,8 +1,8 @@
 -- Every worked case holds of the definitions: antt computes both sides of the table.
 use mathlib.Core.Path.{_≡_, refl}
 use mathlib.Core.List.{List, map}
-use Rattle.sheets.specs.Cases.{Deed, Outcome, done, cases, moreCases}
-use Rattle.sheets.proofs.Compute.{computing}
+use Rattle.claims.specs.Cases.{Deed, Outcome, done, cases, moreCases}
+use Rattle.claims.proofs.Compute.{computing}
 
 -- every case of a table comes out as it says
 abbrev AllHold : List (Deed × Outcome) → Type 0
