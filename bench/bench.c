@@ -5,7 +5,7 @@
        bench CASE SIZE WHO TIMES    sets up a case and calls it so many times; WHO is proved or plain, for paint and gather also words or
                                     tested
        bench where CASE             for paint and gather: the address of the words that are drawn on, and the one behind them
-       bench least CASE SIZE        how often these words are read at the least, and written */
+       bench least CASE SIZE        how often these words are read, and how often they are written, at the least */
 #include "pailradish.h"
 #include "plain.h"
 
@@ -23,6 +23,7 @@ static struct state {
     size_t font_words, text_bytes, cu_words;
     pailradish_call call;
     size_t panel_words, flip_words;
+    pailradish_counts counts;
     pailradish_reply reply;
     pailradish_conversion conversion;
 } s;
@@ -151,6 +152,16 @@ static void cu_file(unsigned characters, unsigned rows, unsigned row_words, bool
     s.cu_words = (size_t)(next - s.cu);
 }
 
+/* The true counts: the panel is gone through dot by dot. */
+static void count_panel(void)
+{
+    pailradish_shape shape = s.call.shape;
+    memset(&s.counts, 0, sizeof s.counts);
+    for (size_t row = 0; row < shape.rows; row++)
+        for (size_t column = 0; column < PAILRADISH_STRIPS * shape.width; column++)
+            s.counts.lit[column / shape.width] += s.panel[row * shape.row_words + column / 16] >> (15 - column % 16) & 1;
+}
+
 /* A call of each export, and of its plain C. */
 
 #define TEXT s.text, s.text_bytes
@@ -163,8 +174,24 @@ static void set_conversion(pailradish_conversion done)
     s.conversion.words = done.words;
 }
 
+/* The counts that are handed back are those of the next call. */
+static void set_painted(pailradish_painted painted)
+{
+    s.reply = painted.reply;
+    s.counts = painted.counts;
+}
+
+static void set_settled(pailradish_settled settled)
+{
+    s.reply.number = settled.number;
+    s.counts = settled.counts;
+}
+
 #define LABEL_CALLS(who) \
-    static void who##_call_paint(void) { s.reply = who##_paint(s.font, s.font_words, s.call, TEXT, s.panel, s.panel_words); } \
+    static void who##_call_paint(void) \
+    { \
+        set_painted(who##_paint(s.font, s.font_words, s.call, TEXT, s.panel, s.panel_words, s.counts)); \
+    } \
     static void who##_call_gather(void) { s.reply = who##_gather(s.font, s.font_words, s.call, TEXT, SHEET); }
 
 #define ALL_CALLS(who) \
@@ -177,7 +204,8 @@ static void set_conversion(pailradish_conversion done)
     { \
         s.reply.number = who##_join(s.call.shape, SHEET, s.then_keep, s.panel_words, s.then_flip, s.panel_words); \
     } \
-    static void who##_call_apply(void) { s.reply.number = who##_apply(s.call.shape, SHEET, s.panel, s.panel_words); } \
+    static void who##_call_apply(void) { set_settled(who##_apply(s.call.shape, SHEET, s.panel, s.panel_words, s.counts)); } \
+    static void who##_call_clear(void) { set_settled(who##_clear(s.call.shape, s.panel, s.panel_words, s.counts)); } \
     static void who##_call_convert(void) { set_conversion(who##_convert(s.cu, s.cu_words, s.out, OUT)); }
 
 ALL_CALLS(pailradish)
@@ -186,8 +214,9 @@ LABEL_CALLS(words)
 LABEL_CALLS(tested)
 
 typedef void call(void);
-enum { CHECK, MEASURE, WORDS, PAINT, GATHER, FRESH, JOIN, APPLY, CONVERT, EXPORTS };
-static const char *const export_names[EXPORTS] = {"check", "measure", "words", "paint", "gather", "fresh", "join", "apply", "convert"};
+enum { CHECK, MEASURE, WORDS, PAINT, GATHER, FRESH, JOIN, APPLY, CLEAR, CONVERT, EXPORTS };
+static const char *const export_names[EXPORTS] = {"check", "measure", "words", "paint", "gather",
+                                                  "fresh", "join",    "apply", "clear", "convert"};
 
 /* Who can be called. The library stands first. */
 static const struct caller {
@@ -195,9 +224,9 @@ static const struct caller {
     call *calls[EXPORTS];
 } callers[] = {
     {"proved", {pailradish_call_check, pailradish_call_measure, pailradish_call_words, pailradish_call_paint, pailradish_call_gather,
-                pailradish_call_fresh, pailradish_call_join, pailradish_call_apply, pailradish_call_convert}},
+                pailradish_call_fresh, pailradish_call_join, pailradish_call_apply, pailradish_call_clear, pailradish_call_convert}},
     {"plain", {plain_call_check, plain_call_measure, plain_call_words, plain_call_paint, plain_call_gather, plain_call_fresh,
-               plain_call_join, plain_call_apply, plain_call_convert}},
+               plain_call_join, plain_call_apply, plain_call_clear, plain_call_convert}},
     {"words", {[PAINT] = words_call_paint, [GATHER] = words_call_gather}},
     {"tested", {[PAINT] = tested_call_paint, [GATHER] = tested_call_gather}},
 };
@@ -223,9 +252,23 @@ static void set_large_label(unsigned n) { large_font(), shape(128, 16, 64), text
 static void set_picture_rows(unsigned n) { kerned_font(32, 95, 42, n, n, 7), shape(128, 256, 64), text(8), at(31, 0, n, 0); }
 static void set_panel_rows(unsigned n) { label_font(), shape(128, n, 64), text(8), at(31, 0, 11, 0); }
 static void set_strip_columns(unsigned n) { label_font(), shape(128, 16, n), text(8), at(31, 0, 11, 0); }
+/* One dot too many in the count of the strip. */
+static void set_untrue(unsigned n) { set_label(n), count_panel(), s.counts.lit[31]++; }
+/* The same where the pictures reach every row: then no dot elsewhere says that the count cannot leave what it may be. */
+static void set_unsure(unsigned n)
+{
+    kerned_font(32, 95, 42, n, n, 7), shape(128, n, 64), text(8), at(31, 0, (int32_t)n, 0);
+    count_panel(), s.counts.lit[31]++;
+}
 static void set_panel(unsigned n)
 {
     n == 24 ? shape(8, 3, 4) : shape(128, n / 128, 64);
+}
+/* A sheet as a call for one label makes it. Its dots flip, so that each time it is applied it alters the same words. */
+static void set_one_label(unsigned n)
+{
+    set_inverted(8), set_panel(n);
+    plain_call_fresh(), plain_call_gather();
 }
 static void set_small_cu(unsigned n)
 {
@@ -255,6 +298,7 @@ static const struct one {
     {"paint-8", "paint: 8 bytes, all inside the strip", PAINT, set_label, {8}},
     {"paint-erase", "paint: 8 bytes, Erase", PAINT, set_erased, {8}},
     {"paint-invert", "paint: 8 bytes, Invert", PAINT, set_inverted, {8}},
+    {"paint-untrue", "paint: 8 bytes, a count that is not true", PAINT, set_untrue, {8}},
     {"paint-wide", "paint: 2 bytes of 20 columns", PAINT, set_wide, {2}},
     {"paint-poster", "paint: 1 byte of 60 columns and 64 rows", PAINT, set_poster, {1}},
     {"paint-64", "paint: 64 bytes, 8 of them inside", PAINT, set_label, {64}},
@@ -273,6 +317,9 @@ static const struct one {
     {"join-32768", "join: R = 128, H = 256", JOIN, set_panel, {32768}},
     {"apply-24", "apply: R = 8, H = 3", APPLY, set_panel, {24}},
     {"apply-32768", "apply: R = 128, H = 256", APPLY, set_panel, {32768}},
+    {"apply-label", "apply: R = 128, H = 256, one label on the sheet", APPLY, set_one_label, {32768}},
+    {"clear-24", "clear: R = 8, H = 3", CLEAR, set_panel, {24}},
+    {"clear-32768", "clear: R = 128, H = 256", CLEAR, set_panel, {32768}},
     {"convert-c1", "convert: the CU file of C1, 17 words", CONVERT, set_small_cu, {17}},
     {"convert-64k", "convert: 129 characters of 126 × 32 dots, 32,768 words", CONVERT, set_large_cu, {129}},
     {"convert-last", "convert: the same, one dot in the last row and column", CONVERT, set_last_dots, {129}},
@@ -286,10 +333,12 @@ static const struct one {
     {"paint-picture", "paint 8 bytes, by rows of the picture", PAINT, set_picture_rows, {1, 4, 16, 64, 256}},
     {"paint-panel", "paint 8 bytes, by rows of the panel", PAINT, set_panel_rows, {12, 16, 64, 256}},
     {"paint-strip", "paint 8 bytes, by columns of the strip", PAINT, set_strip_columns, {16, 32, 48, 64}},
+    {"paint-unsure", "paint 8 bytes, a count that is not true, by rows of picture and panel", PAINT, set_unsure, {1, 4, 16, 64, 256}},
     {"gather-bytes", "gather Paint, by bytes of the label", GATHER, set_label, {1, 4, 8, 16, 64}},
     {"fresh-words", "fresh, by words of the panel", FRESH, set_panel, {128, 512, 2048, 8192, 32768}},
     {"join-words", "join, by words of the panel", JOIN, set_panel, {128, 512, 2048, 8192, 32768}},
     {"apply-words", "apply, by words of the panel", APPLY, set_panel, {128, 512, 2048, 8192, 32768}},
+    {"clear-words", "clear, by words of the panel", CLEAR, set_panel, {128, 512, 2048, 8192, 32768}},
     {"convert-chars", "convert, by characters of 16 × 16 dots", CONVERT, set_characters, {1, 4, 16, 64, 250}},
     {"convert-rows", "convert 16 characters, by rows of 16 dots", CONVERT, set_cu_rows, {1, 4, 16, 64, 128}},
 };
@@ -306,10 +355,14 @@ static void set_up(const struct one *c, unsigned size)
     fill(s.then_flip, PANEL);
     fill(s.out, OUT);
     c->set(size);
+    if (c->set != set_untrue && c->set != set_unsure)
+        count_panel();
+    s.reply = (pailradish_reply){0, 0, 0};
 }
 
 /* The trips over the bus that a drawing call cannot do without: each character reads and writes each word that its picture reaches inside
-   strip and panel. It is made as simply as can be, and takes nothing from what is measured. */
+   strip and panel. Painting also counts the lit dots of the strip in the rows that a picture of the font may reach, once before and once
+   after. It is made as simply as can be, and takes nothing from what is measured. */
 
 /* The words that a picture reaches: it is gone through dot by dot, and each word is marked. `left` is counted from the strip. */
 static unsigned long words_reached(int left, int columns, int top, int rows)
@@ -329,7 +382,11 @@ static unsigned long words_reached(int left, int columns, int top, int rows)
     return count;
 }
 
-static unsigned long least_trips(int export)
+struct trips {
+    unsigned long reads, writes;
+};
+
+static struct trips least_trips(int export)
 {
     bool kerned = s.font[0] & 0x1000;
     const uint16_t *body = s.font + (kerned ? 8 : 4), min = s.font[1], max = s.font[2];
@@ -344,12 +401,16 @@ static unsigned long least_trips(int export)
         count += words_reached(kerned ? pen + (int16_t)s.font[4] + widths[k] / 256 : pen, columns, top, rows);
         pen += kerned ? widths[k] % 256 : columns;
     }
-    return export == GATHER && s.call.label.mode != PAILRADISH_INVERT ? 2 * count : count;
+    if (export == GATHER && s.call.label.mode != PAILRADISH_INVERT)
+        count *= 2;
+    /* In the rows that are reached the whole strip is read: it is one picture of all its columns. */
+    unsigned long counted = export == PAINT ? 2 * words_reached(0, (int)s.call.shape.width, top, rows) : 0;
+    return (struct trips){count + counted, count};
 }
 
 /* Comparing. */
 
-static unsigned long compared, refused[PAILRADISH_MODE_RANGE + 1];
+static unsigned long compared, refused[PAILRADISH_COUNT_RANGE + 1];
 
 static void fail(const char *what, unsigned size, const char *who, const char *why)
 {
@@ -363,19 +424,33 @@ static bool refuses(int who, int export)
     return export == CHECK || who == TESTED;
 }
 
-/* Beside the number of a refusal there are zeros, and all else is as it was. */
-static void note_refusal(const char *what, unsigned size, const struct state *before)
+/* Of these the refusals are noted: what they are handed may be flawed. */
+static bool may_be_refused(int export)
+{
+    return export == PAINT || export == GATHER || export == APPLY || export == CLEAR;
+}
+
+/* Applying and clearing answer a number alone. */
+static pailradish_reply refusal(int export, const struct state *before)
+{
+    if (export == APPLY || export == CLEAR)
+        return (pailradish_reply){s.reply.number, before->reply.pen, before->reply.substitutes};
+    return (pailradish_reply){s.reply.number, 0, 0};
+}
+
+/* Beside the number of a refusal there are zeros, and all else is as it was, the counts too. */
+static void note_refusal(const char *what, unsigned size, int export, const struct state *before)
 {
     static struct state expected;
     expected = *before;
-    expected.reply = (pailradish_reply){s.reply.number, 0, 0};
+    expected.reply = refusal(export, before);
     if (memcmp(&expected, &s, sizeof s) != 0)
         fail(what, size, callers[PROVED].name, "refuses and alters something");
     refused[s.reply.number]++;
 }
 
 /* All answer what is set up now alike, and change the same words to the same. A case must be accepted, and must alter words where its
-   export does. What may be refused is asked only of those that refuse. */
+   export does. What the library refuses is asked only of those that refuse. */
 static void compare(const char *what, unsigned size, int export, bool accepted, bool altering)
 {
     static struct state before, first;
@@ -386,10 +461,10 @@ static void compare(const char *what, unsigned size, int export, bool accepted, 
         fail(what, size, callers[PROVED].name, "refuses");
     if (altering && memcmp(&before, &s, offsetof(struct state, then_keep)) == 0)
         fail(what, size, callers[PROVED].name, "alters nothing");
-    if ((export == PAINT || export == GATHER) && s.reply.number != 0)
-        note_refusal(what, size, &before);
+    if (may_be_refused(export) && s.reply.number != 0)
+        note_refusal(what, size, export, &before);
     for (int who = PLAIN; who < CALLERS; who++) {
-        if (!callers[who].calls[export] || !(accepted || refuses(who, export)))
+        if (!callers[who].calls[export] || !(accepted || first.reply.number == 0 || refuses(who, export)))
             continue;
         s = before;
         callers[who].calls[export]();
@@ -426,6 +501,12 @@ static void any_panel(void)
 {
     uint32_t row_words = within(2, 40), rows = within(1, 40);
     shape(row_words, rows, within(1, row_words / 2));
+}
+
+static void any_dots(void)
+{
+    fill(s.panel, s.panel_words);
+    count_panel();
 }
 
 /* Characters with fewer dots or none, and codes with gaps between them; code 65, the first, stays as it is. */
@@ -478,8 +559,11 @@ static void damaged_fonts(unsigned i)
     }
 }
 
-/* What may be wrong with a drawing call: for each test a value on either side of its limit, or one far away. Some values are accepted. */
-enum { FONT_WORD, FONT_DUMMY, FONT_END, ROW_WORDS, ROWS, WIDTH, PANEL_END, FLIP_END, STRIP, PLACE_X, PLACE_Y, TEXT_END, MODE, FLAWS };
+/* What may be wrong with a call on a panel or a sheet: for each test a value on either side of its limit, or one far away. Some values are
+   accepted. */
+enum {
+    FONT_WORD, FONT_DUMMY, FONT_END, ROW_WORDS, ROWS, WIDTH, PANEL_END, FLIP_END, STRIP, PLACE_X, PLACE_Y, TEXT_END, MODE, COUNTS, FLAWS
+};
 
 static uint32_t one_of(const uint32_t *values, uint32_t count)
 {
@@ -493,11 +577,24 @@ static int32_t any_far_place(void)
     return places[within(0, sizeof places / sizeof *places - 1)];
 }
 
+/* Of the label's own strip every other time. */
+static uint32_t *any_count(void)
+{
+    uint32_t strip = s.call.label.strip;
+    return &s.counts.lit[within(0, 1) && strip < PAILRADISH_STRIPS ? strip : within(0, PAILRADISH_STRIPS - 1)];
+}
+
+static uint32_t any_untrue_count(uint32_t lit)
+{
+    uint32_t most = s.call.shape.width * s.call.shape.rows;
+    return ONE_OF(0, 1, lit - 1, lit + 1, lit / 2, most - lit, most - 1, most, most + 1, 0x80000000, 0xFFFFFFFF);
+}
+
 static void spoil(int flaw)
 {
     pailradish_shape *shape = &s.call.shape;
     pailradish_label *label = &s.call.label;
-    uint32_t half = shape->row_words / 2;
+    uint32_t half = shape->row_words / 2, *count = any_count();
     switch (flaw) {
     case FONT_WORD: *any_font_word() = any_damage(); break;
     case FONT_DUMMY: s.font[s.font_words - 1] = 0xFFFF; break;
@@ -512,37 +609,96 @@ static void spoil(int flaw)
     case PLACE_Y: label->y = any_far_place(); break;
     case TEXT_END: s.text_bytes = ONE_OF(PAILRADISH_LABEL_BYTES, PAILRADISH_LABEL_BYTES + 1); break;
     case MODE: label->mode = ONE_OF(2, 3, 0x80000000, 0xFFFFFFFF); break;
+    case COUNTS: *count = any_untrue_count(*count); break;
     }
     if (flaw == ROW_WORDS || flaw == ROWS)
         s.panel_words = s.flip_words = PANEL;
 }
 
-/* Drawing calls that may be refused: with one flaw, each in its turn, and with some of them together. */
+/* By how much the label of a call without a flaw changes the count of its strip. */
+static uint32_t gained_by_label(void)
+{
+    static struct state before;
+    before = s;
+    plain_call_paint();
+    uint32_t gained = s.counts.lit[s.call.label.strip] - before.counts.lit[s.call.label.strip];
+    s = before;
+    return gained;
+}
+
+/* The count of the label's strip becomes one that the label brings to the end of what a count may be, or next to it. */
+static void spoil_own_count(void)
+{
+    uint32_t gained = gained_by_label();
+    uint32_t end = (int32_t)gained > 0 ? s.call.shape.width * s.call.shape.rows : 0;
+    s.counts.lit[s.call.label.strip] = end - gained + ONE_OF(-1, 0, 1);
+}
+
+/* With one flaw, each in its turn; with a count alone; and with some flaws together. */
+enum { ONE_FLAW, OWN_COUNT, SOME_FLAWS, WAYS };
+
+static void spoil_call(unsigned way, unsigned i)
+{
+    if (way == ONE_FLAW)
+        spoil((int)(i % FLAWS));
+    else if (way == OWN_COUNT)
+        spoil_own_count();
+    else
+        for (int flaw = 0; flaw < FLAWS; flaw++)
+            if (within(0, 2) == 0)
+                spoil(flaw);
+}
+
+/* Calls that may be refused. */
 static void flawed_calls(unsigned i)
 {
-    static struct state whole;
+    static const int calls[] = {PAINT, GATHER, APPLY, CLEAR};
+    static struct state whole, flawed;
     whole = s;
-    for (unsigned k = 0; k < 2; k++) {
-        for (unsigned flaw = 0; flaw < FLAWS; flaw++)
-            if (k == 0 ? flaw == i % FLAWS : within(0, 2) == 0)
-                spoil((int)flaw);
-        compare("flawed call", i, PAINT, false, false);
-        compare("flawed call", i, GATHER, false, false);
+    for (unsigned way = 0; way < WAYS; way++) {
+        spoil_call(way, i);
+        flawed = s;
+        for (unsigned k = 0; k < sizeof calls / sizeof *calls; k++) {
+            compare("flawed call", i, calls[k], false, false);
+            s = flawed;
+        }
         s = whole;
     }
+}
+
+/* A label of which half is codes of the font. */
+static void any_text(void)
+{
+    s.text_bytes = within(0, PAILRADISH_LABEL_BYTES);
+    for (size_t k = 0; k < s.text_bytes; k++)
+        s.text[k] = (uint8_t)(within(0, 1) ? any() : within(s.font[1], s.font[2]));
+}
+
+/* Mostly such that the pictures come near the strip, wherever FBBox has them, and that some of their rows are on the panel. */
+static void any_place(void)
+{
+    bool kerned = s.font[0] & 0x1000, near = within(0, 3);
+    const uint16_t *body = s.font + (kerned ? 8 : 4);
+    uint32_t height = body[1] + body[2];
+    int32_t x = (int32_t)within(0, 60) - 50 - (kerned ? (int16_t)s.font[4] : 0);
+    int32_t y = (int32_t)within(1, s.call.shape.rows + height - 1) - (int32_t)height + body[1];
+    if (!near) {
+        x = (int32_t)within(0, 120) - 60;
+        y = (int32_t)within(0, 80) - 20;
+    }
+    at(within(0, 31), x, y, within(0, 2));
 }
 
 /* Calls with everything at random. The reply that stands there before is a wrong one. */
 static void random_calls(unsigned count)
 {
-    static const int label_calls[] = {CHECK, MEASURE, PAINT, GATHER, JOIN, APPLY, FRESH};
+    static const int label_calls[] = {CHECK, MEASURE, PAINT, GATHER, JOIN, APPLY, CLEAR, PAINT, FRESH};
     for (unsigned i = 0; i < count; i++) {
         any_font();
         any_panel();
-        text(within(0, PAILRADISH_LABEL_BYTES));
-        for (size_t k = 0; k < s.text_bytes; k++)
-            s.text[k] = (uint8_t)any();
-        at(within(0, 31), (int32_t)within(0, 120) - 60, (int32_t)within(0, 80) - 20, within(0, 2));
+        any_dots();
+        any_text();
+        any_place();
         for (unsigned k = 0; k < sizeof label_calls / sizeof *label_calls; k++) {
             s.reply.number = 99;
             compare("random call", i, label_calls[k], true, false);
@@ -554,6 +710,7 @@ static void random_calls(unsigned count)
         compare("random convert", i, CONVERT, true, false);
         s.reply = (pailradish_reply){99, 99, 99};
         damaged_fonts(i);
+        any_dots();
         flawed_calls(i);
         s.reply.number = 0;
     }
@@ -572,6 +729,8 @@ static void check_all(void)
     for (unsigned number = PAILRADISH_FONT_SHORT; number <= PAILRADISH_MODE_RANGE; number++)
         if (refused[number] == 0)
             fail("refusal", number, "nobody", "gives it");
+    if (refused[PAILRADISH_COUNT_RANGE] == 0)
+        fail("refusal", PAILRADISH_COUNT_RANGE, "nobody", "gives it");
     printf("%lu calls compared, all equal\n", compared);
 }
 
@@ -632,7 +791,8 @@ int main(int count, char **words)
         where(c);
     else if (count == 4 && strcmp(command, "least") == 0) {
         set_up(c, (unsigned)number_of(words[3]));
-        printf("%lu\n", least_trips(c->export));
+        struct trips least = least_trips(c->export);
+        printf("%lu %lu\n", least.reads, least.writes);
     } else if (count == 5 && call_of(words[3], c->export)) {
         set_up(c, (unsigned)number_of(words[2]));
         call *chosen = call_of(words[3], c->export);

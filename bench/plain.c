@@ -1,6 +1,6 @@
 /* Plain C that does what the exports do, as it is written where nothing is proved: it believes its inputs. It refuses nothing and tests no
-   index, paints and converts dot by dot, and applies and joins word by word. Only the check of a font tests, since testing is what it is
-   for. It is here to be measured against, and is no part of the library. */
+   index, paints and converts dot by dot, and applies, joins and clears word by word. It counts lit dots where it alters them. Only the
+   check of a font tests, since testing is what it is for. It is here to be measured against, and is no part of the library. */
 #include "font.h"
 #include "plain.h"
 
@@ -32,9 +32,10 @@ pailradish_conversion plain_words(const uint8_t *bytes, size_t byte_count, uint1
     return (pailradish_conversion){0, byte_count / 2};
 }
 
-/* Draws a label dot by dot: on a panel, where there is no keep, or on the keep and the flip of a sheet. */
+/* Draws a label dot by dot: on a panel, where there is no keep and the count of the strip goes along, or on the keep and the flip of a
+   sheet. */
 ALWAYS pailradish_reply draw(const uint16_t *font, pailradish_call call, const uint8_t *text, size_t text_bytes, uint16_t *keep,
-                             uint16_t *flip)
+                             uint16_t *flip, uint32_t *lit)
 {
     face f = face_of(by_words, font);
     pailradish_shape shape = call.shape;
@@ -57,12 +58,15 @@ ALWAYS pailradish_reply draw(const uint16_t *font, pailradish_call call, const u
                     continue;
                 unsigned dot = call.label.strip * shape.width + (unsigned)(left + column);
                 uint16_t bit = 0x8000 >> dot % 16;
+                bool was = flip[to + dot / 16] & bit;
                 if (mode == PAILRADISH_PAINT)
                     flip[to + dot / 16] |= bit;
                 else if (mode == PAILRADISH_ERASE)
                     flip[to + dot / 16] &= ~bit;
                 else
                     flip[to + dot / 16] ^= bit;
+                if (lit)
+                    *lit += (mode == PAILRADISH_INVERT ? !was : mode == PAILRADISH_PAINT) - was;
                 if (keep && mode != PAILRADISH_INVERT)
                     keep[to + dot / 16] &= ~bit;
             }
@@ -73,18 +77,21 @@ ALWAYS pailradish_reply draw(const uint16_t *font, pailradish_call call, const u
     return reply;
 }
 
-pailradish_reply plain_paint(const uint16_t *font, size_t font_words, pailradish_call call, const uint8_t *text, size_t text_bytes,
-                             uint16_t *panel, size_t panel_words)
+pailradish_painted plain_paint(const uint16_t *font, size_t font_words, pailradish_call call, const uint8_t *text, size_t text_bytes,
+                               uint16_t *panel, size_t panel_words, pailradish_counts counts)
 {
     (void)font_words, (void)panel_words;
-    return draw(font, call, text, text_bytes, NULL, panel);
+    uint32_t lit = counts.lit[call.label.strip];
+    pailradish_reply reply = draw(font, call, text, text_bytes, NULL, panel, &lit);
+    counts.lit[call.label.strip] = lit;
+    return (pailradish_painted){reply, counts};
 }
 
 pailradish_reply plain_gather(const uint16_t *font, size_t font_words, pailradish_call call, const uint8_t *text, size_t text_bytes,
                               uint16_t *keep, size_t keep_words, uint16_t *flip, size_t flip_words)
 {
     (void)font_words, (void)keep_words, (void)flip_words;
-    return draw(font, call, text, text_bytes, keep, flip);
+    return draw(font, call, text, text_bytes, keep, flip, NULL);
 }
 
 uint32_t plain_fresh(pailradish_shape shape, uint16_t *keep, size_t keep_words, uint16_t *flip, size_t flip_words)
@@ -108,13 +115,44 @@ uint32_t plain_join(pailradish_shape shape, uint16_t *keep, size_t keep_words, u
     return 0;
 }
 
-uint32_t plain_apply(pailradish_shape shape, const uint16_t *keep, size_t keep_words, const uint16_t *flip, size_t flip_words,
-                     uint16_t *panel, size_t panel_words)
+/* A word of the panel becomes another, `column` being its first: what each strip gains and loses by it. */
+ALWAYS void recount(pailradish_counts *counts, uint32_t width, uint32_t column, unsigned was, unsigned is)
+{
+    uint32_t from = column, end = column + 16;
+    for (uint32_t strip = from / width; strip < PAILRADISH_STRIPS && from < end; strip++) {
+        uint32_t upto = (strip + 1) * width < end ? (strip + 1) * width : end;
+        unsigned mask = (0xFFFFu >> (from - column)) & ~(0xFFFFu >> (upto - column));
+        counts->lit[strip] += (uint32_t)__builtin_popcount(is & mask) - (uint32_t)__builtin_popcount(was & mask);
+        from = upto;
+    }
+}
+
+/* Most words of most sheets alter nothing: those are not counted. */
+pailradish_settled plain_apply(pailradish_shape shape, const uint16_t *keep, size_t keep_words, const uint16_t *flip, size_t flip_words,
+                               uint16_t *panel, size_t panel_words, pailradish_counts counts)
 {
     (void)keep_words, (void)flip_words, (void)panel_words;
-    for (size_t i = 0; i < (size_t)shape.row_words * shape.rows; i++)
-        panel[i] = (panel[i] & keep[i]) ^ flip[i];
-    return 0;
+    for (uint32_t row = 0; row < shape.rows; row++)
+        for (uint32_t word = 0; word < shape.row_words; word++) {
+            size_t i = (size_t)row * shape.row_words + word;
+            unsigned was = panel[i], is = (was & keep[i]) ^ flip[i];
+            if (is != was)
+                recount(&counts, shape.width, 16 * word, was, is);
+            panel[i] = (uint16_t)is;
+        }
+    return (pailradish_settled){0, counts};
+}
+
+pailradish_settled plain_clear(pailradish_shape shape, uint16_t *panel, size_t panel_words, pailradish_counts counts)
+{
+    (void)panel_words;
+    for (uint32_t row = 0; row < shape.rows; row++)
+        for (uint32_t word = 0; word < shape.row_words; word++) {
+            size_t i = (size_t)row * shape.row_words + word;
+            recount(&counts, shape.width, 16 * word, panel[i], 0);
+            panel[i] = 0;
+        }
+    return (pailradish_settled){0, counts};
 }
 
 /* One dot of a character of a CU file. */

@@ -1,16 +1,17 @@
 /* Plain C that paints and gathers by words, as it is written for a slow bus where nothing is proved: of a character only the rows and the
-   words that its picture reaches inside strip and panel, each of them read once and written once. words_paint and words_gather believe
-   their inputs; tested_paint and tested_gather refuse what the library refuses. It is here to be measured against, and is no part of the
-   library. */
+   words that its picture reaches inside strip and panel, each of them read once and written once. The dots that a panel gains and loses are
+   counted as each word is written. words_paint and words_gather believe their inputs; tested_paint and tested_gather refuse what the
+   library refuses. It is here to be measured against, and is no part of the library. */
 #include "font.h"
 #include "plain.h"
 
-/* What a label is drawn on: the keep and the flip of a sheet, or a panel, which is a flip without a keep. The mode is a constant in every
-   copy that the compiler makes of what follows, so that no loop asks for it. */
+/* What a label is drawn on: the keep and the flip of a sheet, or a panel, which is a flip without a keep, and the count of the strip. The
+   mode is a constant in every copy that the compiler makes of what follows, so that no loop asks for it. */
 typedef struct {
     uint32_t mode;
     uint16_t *keep, *flip;
     size_t row_words;
+    uint32_t lit;
 } canvas;
 
 /* What all characters of a label share: how many rows of a picture are on the panel, the columns of the strip there, and for the first of
@@ -64,8 +65,27 @@ ALWAYS unsigned dots_of(const uint16_t *source, unsigned turn)
     return ring << turn | ring >> (-turn & 31);
 }
 
-ALWAYS void touch(const canvas *c, size_t word, unsigned dots)
+/* How many of these dots a word has set. What stands above the sixteen means nothing. */
+ALWAYS uint32_t set_of(unsigned word, unsigned dots)
 {
+    return (uint32_t)__builtin_popcount(word & dots & 0xFFFF);
+}
+
+/* What the strip gains by it, less what it loses. */
+ALWAYS uint32_t gained(const canvas *c, size_t word, unsigned dots)
+{
+    unsigned was = c->flip[word];
+    if (c->mode == PAILRADISH_PAINT)
+        return set_of(~was, dots);
+    if (c->mode == PAILRADISH_ERASE)
+        return -set_of(was, dots);
+    return set_of(was ^ dots, 0xFFFF) - set_of(was, 0xFFFF);
+}
+
+ALWAYS void touch(canvas *c, size_t word, unsigned dots)
+{
+    if (!c->keep)
+        c->lit += gained(c, word, dots);
     if (c->mode == PAILRADISH_PAINT)
         c->flip[word] |= dots;
     else if (c->mode == PAILRADISH_ERASE)
@@ -77,7 +97,7 @@ ALWAYS void touch(const canvas *c, size_t word, unsigned dots)
 }
 
 /* One word in each row. */
-ALWAYS void draw_narrow(const canvas *c, const uint16_t *font, size_t raster, piece p, int rows)
+ALWAYS void draw_narrow(canvas *c, const uint16_t *font, size_t raster, piece p, int rows)
 {
     unsigned mask = p.first_mask & p.last_mask;
     do {
@@ -88,7 +108,7 @@ ALWAYS void draw_narrow(const canvas *c, const uint16_t *font, size_t raster, pi
 }
 
 /* Two words or more in each row. */
-ALWAYS void draw_wide(const canvas *c, const uint16_t *font, size_t raster, piece p, int rows)
+ALWAYS void draw_wide(canvas *c, const uint16_t *font, size_t raster, piece p, int rows)
 {
     do {
         touch(c, p.target, dots_of(font + p.source, p.turn) & p.first_mask);
@@ -101,7 +121,8 @@ ALWAYS void draw_wide(const canvas *c, const uint16_t *font, size_t raster, piec
 }
 
 /* The pen is kept where a picture with offset 0 begins, in columns of the panel. */
-ALWAYS pailradish_reply draw_on(canvas c, const uint16_t *font, pailradish_call call, const uint8_t *text, size_t text_bytes)
+ALWAYS pailradish_reply draw_on(canvas c, const uint16_t *font, pailradish_call call, const uint8_t *text, size_t text_bytes,
+                                uint32_t *lit)
 {
     face f = face_of(by_words, font);
     frame r = frame_of(&f, call);
@@ -122,32 +143,35 @@ ALWAYS pailradish_reply draw_on(canvas c, const uint16_t *font, pailradish_call 
         else
             draw_wide(&c, font, f.raster, p, r.rows);
     }
+    *lit += c.lit;
     return (pailradish_reply){0, pen - f.fbbox - r.strip, substitutes};
 }
 
 ALWAYS pailradish_reply draw(const uint16_t *font, pailradish_call call, const uint8_t *text, size_t text_bytes, uint16_t *keep,
-                             uint16_t *flip)
+                             uint16_t *flip, uint32_t *lit)
 {
     size_t row_words = call.shape.row_words;
     switch (call.label.mode) {
-    case PAILRADISH_PAINT: return draw_on((canvas){PAILRADISH_PAINT, keep, flip, row_words}, font, call, text, text_bytes);
-    case PAILRADISH_ERASE: return draw_on((canvas){PAILRADISH_ERASE, keep, flip, row_words}, font, call, text, text_bytes);
-    default: return draw_on((canvas){PAILRADISH_INVERT, keep, flip, row_words}, font, call, text, text_bytes);
+    case PAILRADISH_PAINT: return draw_on((canvas){PAILRADISH_PAINT, keep, flip, row_words, 0}, font, call, text, text_bytes, lit);
+    case PAILRADISH_ERASE: return draw_on((canvas){PAILRADISH_ERASE, keep, flip, row_words, 0}, font, call, text, text_bytes, lit);
+    default: return draw_on((canvas){PAILRADISH_INVERT, keep, flip, row_words, 0}, font, call, text, text_bytes, lit);
     }
 }
 
-pailradish_reply words_paint(const uint16_t *font, size_t font_words, pailradish_call call, const uint8_t *text, size_t text_bytes,
-                             uint16_t *panel, size_t panel_words)
+pailradish_painted words_paint(const uint16_t *font, size_t font_words, pailradish_call call, const uint8_t *text, size_t text_bytes,
+                               uint16_t *panel, size_t panel_words, pailradish_counts counts)
 {
     (void)font_words, (void)panel_words;
-    return draw(font, call, text, text_bytes, NULL, panel);
+    pailradish_reply reply = draw(font, call, text, text_bytes, NULL, panel, &counts.lit[call.label.strip]);
+    return (pailradish_painted){reply, counts};
 }
 
 pailradish_reply words_gather(const uint16_t *font, size_t font_words, pailradish_call call, const uint8_t *text, size_t text_bytes,
                               uint16_t *keep, size_t keep_words, uint16_t *flip, size_t flip_words)
 {
     (void)font_words, (void)keep_words, (void)flip_words;
-    return draw(font, call, text, text_bytes, keep, flip);
+    uint32_t lit = 0;
+    return draw(font, call, text, text_bytes, keep, flip, &lit);
 }
 
 /* The number by which a call is refused whose font is accepted, or 0. `lent` is the length of the shortest slice that holds a panel. Half a
@@ -177,13 +201,64 @@ ALWAYS uint32_t call_number(const uint16_t *font, size_t font_words, const pailr
     return number ? number : label_number(call, text_bytes, lent);
 }
 
-pailradish_reply tested_paint(const uint16_t *font, size_t font_words, pailradish_call call, const uint8_t *text, size_t text_bytes,
-                              uint16_t *panel, size_t panel_words)
+/* The words of a strip in the rows that the pictures of a label may reach. */
+typedef struct {
+    size_t first, row_words;
+    int rows, words;
+} band;
+
+ALWAYS band band_of(const uint16_t *font, pailradish_call call)
+{
+    face f = face_of(by_words, font);
+    frame r = frame_of(&f, call);
+    int first = r.strip / 16, end = r.strip + (int)call.shape.width;
+    return (band){r.target + (size_t)first, call.shape.row_words, r.rows, (end - 1) / 16 - first + 1};
+}
+
+/* At the most: 64 columns touch five words, in every row. */
+enum { BAND_WORDS = 5 * PAILRADISH_ROWS };
+
+ALWAYS void keep_band(band b, const uint16_t *panel, uint16_t *kept)
+{
+    for (int row = 0; row < b.rows; row++, b.first += b.row_words)
+        for (int word = 0; word < b.words; word++)
+            *kept++ = panel[b.first + (size_t)word];
+}
+
+ALWAYS void put_back(band b, uint16_t *panel, const uint16_t *kept)
+{
+    for (int row = 0; row < b.rows; row++, b.first += b.row_words)
+        for (int word = 0; word < b.words; word++)
+            panel[b.first + (size_t)word] = *kept++;
+}
+
+ALWAYS bool some_over(const pailradish_counts *counts, uint32_t most)
+{
+    for (int strip = 0; strip < PAILRADISH_STRIPS; strip++)
+        if (counts->lit[strip] > most)
+            return true;
+    return false;
+}
+
+/* What the label does to the count is known when it is painted. So the words that it may alter are copied first, and are put back where the
+   count is not what it may be; below 0 it is far over the most. */
+pailradish_painted tested_paint(const uint16_t *font, size_t font_words, pailradish_call call, const uint8_t *text, size_t text_bytes,
+                                uint16_t *panel, size_t panel_words, pailradish_counts counts)
 {
     uint32_t number = call_number(font, font_words, &call, text_bytes, panel_words);
     if (number)
-        return (pailradish_reply){number, 0, 0};
-    return words_paint(font, font_words, call, text, text_bytes, panel, panel_words);
+        return (pailradish_painted){{number, 0, 0}, counts};
+    uint32_t most = call.shape.width * call.shape.rows;
+    if (some_over(&counts, most))
+        return (pailradish_painted){{PAILRADISH_COUNT_RANGE, 0, 0}, counts};
+    uint16_t kept[BAND_WORDS];
+    band b = band_of(font, call);
+    keep_band(b, panel, kept);
+    pailradish_painted painted = words_paint(font, font_words, call, text, text_bytes, panel, panel_words, counts);
+    if (painted.counts.lit[call.label.strip] <= most)
+        return painted;
+    put_back(b, panel, kept);
+    return (pailradish_painted){{PAILRADISH_COUNT_RANGE, 0, 0}, counts};
 }
 
 pailradish_reply tested_gather(const uint16_t *font, size_t font_words, pailradish_call call, const uint8_t *text, size_t text_bytes,

@@ -7,19 +7,22 @@
        pailradish_words     its bytes become words
        pailradish_paint     a label is painted; or labels are gathered on a sheet (pailradish_fresh, pailradish_gather), which is applied to
                             the panel at once (pailradish_apply)
+       pailradish_clear     all dots of the panel go out
+
+   Beside the panel the caller keeps how many dots are lit in each strip: see pailradish_counts.
 
    Every function answers for every value of its numbers and for slices of every length; nothing has to be tested before a call. A slice is
    a pointer and a count of its elements. The pointer is never null, also where the count is 0, and is aligned for its elements. A slice
    that a call writes overlaps no other slice of that call.
 
-   A refusal's number stands below and in docs/REFUSALS.md; 0 means done. Beside a refusal the other numbers are 0, and no lent word has
-   changed.
+   A refusal's number stands below and in docs/REFUSALS.md; 0 means done. Beside a refusal the other numbers are 0, no lent word has
+   changed, and counts are those that were given.
 
    Words are 16 bits. In a file's bytes the high byte of a word comes first; a slice of words has them in the processor's own order.
 
    Nothing is kept from one call to the next: no function allocates memory, has variables of its own, or uses a pointer after it has
    returned. So calls may run at the same time where none writes what another uses. pailradish_convert takes about 7 KB of stack, every
-   other function about 1 KB or less. */
+   other function about 2 KB or less. */
 #ifndef PAILRADISH_H
 #define PAILRADISH_H
 
@@ -92,6 +95,35 @@ typedef struct {
     uint32_t substitutes;
 } pailradish_reply;
 
+/* How many dots are lit in each strip, for the backlight's dimmer: thirty-two counts that the caller keeps beside the panel. Painting,
+   applying a sheet and clearing are handed the counts and hand back the new ones. That is each count as it was, one more for each dot of
+   the strip that has come on by the call, and one less for each that has gone out. Dots in columns of no strip are counted nowhere.
+
+   To start, set the panel's memory to zeros, and the counts too:
+
+       memset(panel, 0, sizeof panel);
+       pailradish_counts counts = {{0}};
+
+   Then hand each call the counts that the one before handed back, be it done or refused, and they are true after every call: lit[k] dots
+   are lit in strip k. They stop being true where something else writes on the panel, where the panel gets another size, or where counts
+   that a call handed back are lost. No call notices that while every count stays within 0 and width * rows; where one would not, the call
+   is refused by 30. The way back is to start again, with zeros in both, or to count the panel's dots oneself. */
+typedef struct {
+    uint32_t lit[PAILRADISH_STRIPS];
+} pailradish_counts;
+
+/* Painting: the reply, and the counts for the next call. */
+typedef struct {
+    pailradish_reply reply;
+    pailradish_counts counts;
+} pailradish_painted;
+
+/* Applying and clearing: the number, and the counts for the next call. */
+typedef struct {
+    uint32_t number;
+    pailradish_counts counts;
+} pailradish_settled;
+
 /* Converting, and making words of bytes: how many words were written. */
 typedef struct {
     uint32_t number;
@@ -119,6 +151,9 @@ enum {
     PAILRADISH_PLACE_RANGE = 10,  /* x or y not -1024 to 1023 */
     PAILRADISH_LABEL_LONG = 11,   /* text over 64 bytes */
     PAILRADISH_MODE_RANGE = 12,   /* mode over 2 */
+    PAILRADISH_COUNT_RANGE = 30,  /* a count, of any strip, over width * rows, or one that would be below 0 or over that when the call is
+                                     done. True counts are never refused: those given do not fit the panel. Start again as at
+                                     pailradish_counts; pailradish_clear does not help, since it may be refused too */
 
     PAILRADISH_CU_SIZE = 20,      /* fewer than 2 words, H (rows of a raster) not 1 to 128, or WW (words of its row) not 1 to 16 */
     PAILRADISH_CU_LENGTH = 21,    /* words behind the first two no multiple of 2 + H * WW */
@@ -148,6 +183,7 @@ static inline const char *pailradish_message(uint32_t number)
     case PAILRADISH_PLACE_RANGE: return "x or y not -1024 to 1023";
     case PAILRADISH_LABEL_LONG: return "label over 64 bytes";
     case PAILRADISH_MODE_RANGE: return "mode over 2";
+    case PAILRADISH_COUNT_RANGE: return "lit dots of a strip out of range";
     case PAILRADISH_CU_SIZE: return "CU file too short, or its raster size out of range";
     case PAILRADISH_CU_LENGTH: return "CU file ends inside a character";
     case PAILRADISH_CU_CODES: return "CU code over 255, or there twice";
@@ -178,9 +214,13 @@ pailradish_reply pailradish_measure(const uint8_t *font, size_t font_bytes, int3
    and by 27 where word_count is below byte_count / 2. */
 pailradish_conversion pailradish_words(const uint8_t *bytes, size_t byte_count, uint16_t *words, size_t word_count);
 
-/* Paints a label on a panel. Refused by 1 to 7, 8, 9, 10, 11 and 12. */
-pailradish_reply pailradish_paint(const uint16_t *font, size_t font_words, pailradish_call call, const uint8_t *text, size_t text_bytes,
-                                  uint16_t *panel, size_t panel_words);
+/* Paints a label on a panel. Refused by 1 to 7, 8, 9, 10, 11, 12 and 30. Of the counts only that of the label's strip changes. */
+pailradish_painted pailradish_paint(const uint16_t *font, size_t font_words, pailradish_call call, const uint8_t *text, size_t text_bytes,
+                                    uint16_t *panel, size_t panel_words, pailradish_counts counts);
+
+/* Clears a panel: its words become 0, all row_words * rows of them. Refused by 8 and 30. The dots that go out are taken off the counts:
+   true ones become 0, and others keep what was too many. */
+pailradish_settled pailradish_clear(pailradish_shape shape, uint16_t *panel, size_t panel_words, pailradish_counts counts);
 
 /* Sheets. A sheet holds what labels do to a panel, so that it can be done later, at once, and to more than one panel. It has two halves of
    the panel's shape, keep and flip: applied, each word of the panel becomes (word & keep) ^ flip. */
@@ -188,8 +228,8 @@ pailradish_reply pailradish_paint(const uint16_t *font, size_t font_words, pailr
 /* Makes a sheet fresh: applied, it alters nothing. keep becomes FFFF and flip 0. Refused by 8. */
 uint32_t pailradish_fresh(pailradish_shape shape, uint16_t *keep, size_t keep_words, uint16_t *flip, size_t flip_words);
 
-/* Gathers a label on a sheet, behind those that are on it, and replies as painting it does. Refused as painting is, by 8 for both
-   halves. */
+/* Gathers a label on a sheet, behind those that are on it, and replies as painting it does. Refused by 1 to 7, 8, for both halves, 9, 10,
+   11 and 12. There are no counts before the sheet is applied. */
 pailradish_reply pailradish_gather(const uint16_t *font, size_t font_words, pailradish_call call, const uint8_t *text, size_t text_bytes,
                                    uint16_t *keep, size_t keep_words, uint16_t *flip, size_t flip_words);
 
@@ -198,9 +238,10 @@ pailradish_reply pailradish_gather(const uint16_t *font, size_t font_words, pail
 uint32_t pailradish_join(pailradish_shape shape, uint16_t *keep, size_t keep_words, uint16_t *flip, size_t flip_words,
                          const uint16_t *then_keep, size_t then_keep_words, const uint16_t *then_flip, size_t then_flip_words);
 
-/* Applies a sheet to a panel. Refused by 8, for both halves and the panel. */
-uint32_t pailradish_apply(pailradish_shape shape, const uint16_t *keep, size_t keep_words, const uint16_t *flip, size_t flip_words,
-                          uint16_t *panel, size_t panel_words);
+/* Applies a sheet to a panel. Refused by 8, for both halves and the panel, and 30. True counts become what they would be if its labels had
+   been painted one by one. */
+pailradish_settled pailradish_apply(pailradish_shape shape, const uint16_t *keep, size_t keep_words, const uint16_t *flip,
+                                    size_t flip_words, uint16_t *panel, size_t panel_words, pailradish_counts counts);
 
 /* Writes the KernedStrike file of a CU file over the first words of the output; the words behind it stay. Refused by 20 to 27. A CU file is
    H, WW, and for each character its code, its spacing and H * WW words of raster, the top row first; characters come in any order. An

@@ -4,14 +4,17 @@ use std::collections::BTreeMap;
 use std::io::{self, BufRead};
 
 /// The kinds of answers whose first number is a refusal's, in the order of printing.
-pub const KINDS: [&str; 12] = [
+pub const KINDS: [&str; 15] = [
     "check",
     "measure",
     "paint",
+    "paintlit",
     "gather",
     "fresh",
     "join",
     "apply",
+    "applylit",
+    "clear",
     "convert",
     "program",
     "deskcheck",

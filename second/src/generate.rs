@@ -1,6 +1,7 @@
 //! Lists made at random from a seed, the same on every platform.
 
 pub mod call_lists;
+pub mod count_scenes;
 pub mod cu_files;
 mod cu_scenes;
 mod desk_scenes;
@@ -30,6 +31,7 @@ pub enum Kind {
     Fonts,
     Labels,
     Sheets,
+    Counts,
     Cu,
     Conversions,
     Desk,
@@ -37,10 +39,11 @@ pub enum Kind {
 
 impl Kind {
     #[cfg(test)]
-    pub const ALL: [Kind; 6] = [
+    pub const ALL: [Kind; 7] = [
         Kind::Fonts,
         Kind::Labels,
         Kind::Sheets,
+        Kind::Counts,
         Kind::Cu,
         Kind::Conversions,
         Kind::Desk,
@@ -51,6 +54,7 @@ impl Kind {
             "fonts" => Some(Kind::Fonts),
             "labels" => Some(Kind::Labels),
             "sheets" => Some(Kind::Sheets),
+            "counts" => Some(Kind::Counts),
             "cu" => Some(Kind::Cu),
             "conversions" => Some(Kind::Conversions),
             "desk" => Some(Kind::Desk),
@@ -63,6 +67,7 @@ impl Kind {
             Kind::Fonts => Box::new(font_scenes::FontScenes),
             Kind::Labels => Box::new(label_scenes::LabelScenes::default()),
             Kind::Sheets => Box::new(sheet_scenes::SheetScenes),
+            Kind::Counts => Box::new(count_scenes::CountScenes::default()),
             Kind::Cu => Box::new(cu_scenes::CuScenes),
             Kind::Conversions => Box::new(cu_scenes::ConversionScenes),
             Kind::Desk => Box::new(desk_scenes::DeskScenes),

@@ -20,6 +20,7 @@ pub enum Register {
     Flip2,
     Out,
     File,
+    Counts,
 }
 
 #[derive(Debug, Clone, Copy, PartialEq, Eq)]
@@ -39,10 +40,13 @@ pub enum Command {
     Row { row: i64 },
     Measure { x: i64, label: Vec<u8> },
     Paint(Call),
+    PaintLit(Call),
     Fresh(SheetName, Shape),
     Gather(SheetName, Call),
     Join(Shape),
     Apply(SheetName, Shape),
+    ApplyLit(SheetName, Shape),
+    Clear(Shape),
     Convert,
     Program,
     DeskCheck,
@@ -52,7 +56,7 @@ pub enum Command {
 }
 
 impl Register {
-    pub const ALL: [Register; 9] = [
+    pub const ALL: [Register; 10] = [
         Register::Font,
         Register::Cu,
         Register::Panel,
@@ -62,6 +66,7 @@ impl Register {
         Register::Flip2,
         Register::Out,
         Register::File,
+        Register::Counts,
     ];
 
     pub fn name(self) -> &'static str {
@@ -75,6 +80,7 @@ impl Register {
             Register::Flip2 => "flip2",
             Register::Out => "out",
             Register::File => "file",
+            Register::Counts => "counts",
         }
     }
 
@@ -84,6 +90,7 @@ impl Register {
             Register::Font | Register::Out => 70_000,
             Register::Cu => 530_000,
             Register::File => 140_000,
+            Register::Counts => 64,
             _ => 40_000,
         }
     }
@@ -132,10 +139,13 @@ fn parse_command(name: &str, fields: &mut Fields) -> Result<Command, String> {
             label: fields.label()?,
         },
         "paint" => Command::Paint(fields.call()?),
+        "paintlit" => Command::PaintLit(fields.call()?),
         "fresh" => Command::Fresh(fields.sheet()?, fields.shape()?),
         "gather" => Command::Gather(fields.sheet()?, fields.call()?),
         "join" => Command::Join(fields.shape()?),
         "apply" => Command::Apply(fields.sheet()?, fields.shape()?),
+        "applylit" => Command::ApplyLit(fields.sheet()?, fields.shape()?),
+        "clear" => Command::Clear(fields.shape()?),
         "convert" => Command::Convert,
         "program" => Command::Program,
         "deskcheck" => Command::DeskCheck,

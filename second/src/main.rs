@@ -1,6 +1,7 @@
 //! An independent second reading of the paper on strike fonts, panels and sheets.
 
 mod bits;
+mod counts;
 mod coverage;
 mod cu;
 mod desk;
@@ -24,13 +25,13 @@ use std::path::Path;
 use std::process::ExitCode;
 
 use coverage::Coverage;
-use panel::Shape;
+use preview::Arguments;
 use replay::Stopped;
 
 const USAGE: &str = "usage: second replay < LIST > ANSWERS
-       second generate fonts|labels|sheets|cu|conversions|desk SEED COUNT > LIST
+       second generate fonts|labels|sheets|counts|cu|conversions|desk SEED COUNT > LIST
        second programs SEED COUNT DIRECTORY
-       second preview FONT R H W < LABELS > PICTURE
+       second preview [--counts] FONT R H W < LABELS > PICTURE
        second preview --help
        second previews SEED COUNT DIRECTORY FONT..
        second coverage < ANSWERS
@@ -87,7 +88,7 @@ fn write_programs(seed: &str, count: &str, directory: &str) -> Result<(), String
 
 fn write_preview(words: &[&str]) -> Result<(), String> {
     match preview::arguments(words) {
-        Some((font, shape)) => paint_preview(font, shape),
+        Some(arguments) => paint_preview(arguments),
         None => {
             eprint!("{}", preview::USAGE);
             Ok(())
@@ -95,15 +96,19 @@ fn write_preview(words: &[&str]) -> Result<(), String> {
     }
 }
 
-fn paint_preview(font: &str, shape: Shape) -> Result<(), String> {
-    let font = fs::read(font).ok();
+fn paint_preview(arguments: Arguments) -> Result<(), String> {
+    let font = fs::read(arguments.font).ok();
     let mut lines = Vec::new();
     io::stdin()
         .read_to_end(&mut lines)
         .map_err(|error| error.to_string())?;
-    let written = preview::preview(font.as_deref(), shape, &lines);
+    let written = preview::preview(font.as_deref(), arguments.shape, &lines);
     eprint!("{}", written.errors);
-    write_output(&written.picture)
+    write_output(&written.picture)?;
+    if arguments.counts {
+        eprint!("{}", written.counts_text());
+    }
+    Ok(())
 }
 
 fn write_output(bytes: &[u8]) -> Result<(), String> {

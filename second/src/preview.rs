@@ -1,15 +1,16 @@
 //! The preview program: label lines painted on a panel, and a picture of the panel.
 
 use crate::bits::{bit, words_from_bytes};
+use crate::counts::{self, Counts};
 use crate::font;
-use crate::label::{paint, Call, Pen};
+use crate::label::{Call, Pen};
 use crate::panel::Shape;
 use crate::refusal::Refused;
 
-pub const USAGE: &str = "usage: preview FONT R H W\n";
+pub const USAGE: &str = "usage: preview [--counts] FONT R H W\n";
 
 pub const HELP: &str = "\
-usage: preview FONT R H W < LINES > PICTURE
+usage: preview [--counts] FONT R H W < LINES > PICTURE
 
 Paints labels on a panel and writes a picture of it (PBM, kind P4).
 FONT is a strike file. R is the words of a row of the panel, 16 dots each, H its rows, W the columns of a strip.
@@ -23,6 +24,7 @@ Each line of the input is STRIP X Y MODE TEXT, with one space behind each number
 Empty lines, and lines that begin with #, are passed over.
 
 What is wrong with a line, and how many codes of it the font does not have, is said on standard error; the rest is painted all the same.
+With --counts the lit dots of each strip are told on standard error, one line a strip.
 ";
 
 const MOST_FONT_BYTES: usize = 65_536;
@@ -34,6 +36,18 @@ const PANEL_WORDS: usize = 32_768;
 pub struct Written {
     pub picture: Vec<u8>,
     pub errors: String,
+    /// None where there is no picture.
+    pub counts: Option<Counts>,
+}
+
+impl Written {
+    /// What comes on standard error behind the picture, where the counts are asked for.
+    pub fn counts_text(&self) -> String {
+        let counts = self.counts.iter().flatten().enumerate();
+        counts
+            .map(|(strip, count)| format!("strip {strip}: {count} lit\n"))
+            .collect()
+    }
 }
 
 #[derive(Debug, Clone, PartialEq, Eq)]
@@ -43,19 +57,30 @@ enum Line {
     Label(Call),
 }
 
-/// The font's name and the shape, of the arguments behind the program's name.
-pub fn arguments<'a>(words: &[&'a str]) -> Option<(&'a str, Shape)> {
-    match words {
-        [font, words_per_row, rows, strip_width] => {
-            let shape = Shape {
-                words_per_row: unsigned(words_per_row.as_bytes())?,
-                rows: unsigned(rows.as_bytes())?,
-                strip_width: unsigned(strip_width.as_bytes())?,
-            };
-            Some((font, shape))
-        }
-        _ => None,
-    }
+/// What the arguments behind the program's name say.
+#[derive(Debug, Clone, Copy, PartialEq, Eq)]
+pub struct Arguments<'a> {
+    pub counts: bool,
+    pub font: &'a str,
+    pub shape: Shape,
+}
+
+/// Of four arguments the first is the font's name, whatever it is.
+pub fn arguments<'a>(words: &[&'a str]) -> Option<Arguments<'a>> {
+    let (counts, font, numbers) = match words {
+        [font, numbers @ ..] if numbers.len() == 3 => (false, font, numbers),
+        ["--counts", font, numbers @ ..] if numbers.len() == 3 => (true, font, numbers),
+        _ => return None,
+    };
+    Some(Arguments {
+        counts,
+        font,
+        shape: Shape {
+            words_per_row: unsigned(numbers[0].as_bytes())?,
+            rows: unsigned(numbers[1].as_bytes())?,
+            strip_width: unsigned(numbers[2].as_bytes())?,
+        },
+    })
 }
 
 /// The font is none where its file could not be read.
@@ -71,9 +96,13 @@ pub fn preview(font_bytes: Option<&[u8]>, shape: Shape, lines: &[u8]) -> Written
             ..Written::default()
         },
         Ok(words) => {
-            let errors = paint_lines(&words, shape, lines, &mut panel);
-            let picture = picture(shape, &panel);
-            Written { picture, errors }
+            let mut counts = [0; counts::STRIPS];
+            let errors = paint_lines(&words, shape, lines, &mut panel, &mut counts);
+            Written {
+                picture: picture(shape, &panel),
+                errors,
+                counts: Some(counts),
+            }
         }
     }
 }
@@ -92,13 +121,19 @@ fn accepted_words(bytes: &[u8]) -> Result<Vec<u16>, Refused> {
     Ok(words)
 }
 
-fn paint_lines(font: &[u16], shape: Shape, lines: &[u8], panel: &mut [u16]) -> String {
+fn paint_lines(
+    font: &[u16],
+    shape: Shape,
+    lines: &[u8],
+    panel: &mut [u16],
+    counts: &mut Counts,
+) -> String {
     let mut errors = String::new();
     for (before, line) in lines.split(|&byte| byte == b'\n').enumerate() {
         let reply = match read_line(shape, without_return(line)) {
             Line::PassedOver => None,
             Line::NoLabel => Some("not a label".to_string()),
-            Line::Label(call) => said_of(paint(font, &call, panel)),
+            Line::Label(call) => said_of(counts::paint(font, &call, panel, counts)),
         };
         if let Some(reply) = reply {
             errors.push_str(&format!("line {}: {reply}\n", before + 1));

@@ -4,7 +4,7 @@
 pub struct Refused(pub u32);
 
 /// Every number, in the order of the paper's table.
-pub const MESSAGES: [(u32, &str); 21] = [
+pub const MESSAGES: [(u32, &str); 22] = [
     (14, "odd number of bytes"),
     (1, "font file too short for its header"),
     (2, "not a plain or kerned strike file"),
@@ -18,6 +18,7 @@ pub const MESSAGES: [(u32, &str); 21] = [
     (10, "x or y not -1024 to 1023"),
     (11, "label over 64 bytes"),
     (12, "mode over 2"),
+    (30, "lit dots of a strip out of range"),
     (20, "CU file too short, or its raster size out of range"),
     (21, "CU file ends inside a character"),
     (22, "CU code over 255, or there twice"),

@@ -3,11 +3,13 @@
 use std::io::{self, BufRead, Write};
 
 use crate::bits::set_bit;
+use crate::counts::{self, counts_of_words, words_of_counts};
 use crate::cu;
 use crate::desk;
 use crate::font;
-use crate::label::{self, Pen};
+use crate::label::{self, Call, Pen};
 use crate::list::{self, bytes_text, words_text, Command, Register, SheetName};
+use crate::panel::Shape;
 use crate::refusal::{number_of, Refused};
 use crate::sheet::{self, Sheet};
 
@@ -21,6 +23,7 @@ pub struct Replay {
     sheet_two: SheetRegisters,
     out: Vec<u16>,
     file: Vec<u8>,
+    counts: Vec<u16>,
     written: Vec<u16>,
 }
 
@@ -106,6 +109,7 @@ impl Replay {
             Command::Paint(call) => {
                 pen_answer("paint", label::paint(&self.font, &call, &mut self.panel))
             }
+            Command::PaintLit(call) => self.paint_lit(&call),
             Command::Fresh(name, shape) => {
                 let outcome = sheet::fresh(shape, self.sheet_mut(name).lent());
                 format!("fresh {}", number_of(&outcome))
@@ -122,13 +126,12 @@ impl Replay {
                 format!("join {}", number_of(&outcome))
             }
             Command::Apply(name, shape) => {
-                let sheet = match name {
-                    SheetName::One => &self.sheet_one,
-                    SheetName::Two => &self.sheet_two,
-                };
+                let sheet = chosen(name, &self.sheet_one, &self.sheet_two);
                 let outcome = sheet::apply(shape, &sheet.keep, &sheet.flip, &mut self.panel);
                 format!("apply {}", number_of(&outcome))
             }
+            Command::ApplyLit(name, shape) => self.apply_lit(name, shape),
+            Command::Clear(shape) => self.clear(shape),
             Command::Convert => self.convert(),
             Command::Program => self.program(),
             Command::DeskCheck => {
@@ -178,6 +181,29 @@ impl Replay {
         }
     }
 
+    fn paint_lit(&mut self, call: &Call) -> String {
+        let mut counts = counts_of_words(&self.counts);
+        let outcome = counts::paint(&self.font, call, &mut self.panel, &mut counts);
+        self.counts = words_of_counts(&counts);
+        pen_answer("paintlit", outcome)
+    }
+
+    fn apply_lit(&mut self, name: SheetName, shape: Shape) -> String {
+        let sheet = chosen(name, &self.sheet_one, &self.sheet_two);
+        let mut counts = counts_of_words(&self.counts);
+        let panel = &mut self.panel;
+        let outcome = counts::apply(shape, &sheet.keep, &sheet.flip, panel, &mut counts);
+        self.counts = words_of_counts(&counts);
+        format!("applylit {}", number_of(&outcome))
+    }
+
+    fn clear(&mut self, shape: Shape) -> String {
+        let mut counts = counts_of_words(&self.counts);
+        let outcome = counts::clear(shape, &mut self.panel, &mut counts);
+        self.counts = words_of_counts(&counts);
+        format!("clear {}", number_of(&outcome))
+    }
+
     fn convert(&mut self) -> String {
         let outcome = cu::convert(&self.cu, &mut self.out);
         self.written = self.out[..outcome.unwrap_or(0)].to_vec();
@@ -200,10 +226,7 @@ impl Replay {
     }
 
     fn sheet_mut(&mut self, name: SheetName) -> &mut SheetRegisters {
-        match name {
-            SheetName::One => &mut self.sheet_one,
-            SheetName::Two => &mut self.sheet_two,
-        }
+        chosen(name, &mut self.sheet_one, &mut self.sheet_two)
     }
 
     fn words_mut(&mut self, register: Register) -> &mut Vec<u16> {
@@ -216,8 +239,16 @@ impl Replay {
             Register::Keep2 => &mut self.sheet_two.keep,
             Register::Flip2 => &mut self.sheet_two.flip,
             Register::Out => &mut self.out,
+            Register::Counts => &mut self.counts,
             Register::File => unreachable!("the file holds bytes"),
         }
+    }
+}
+
+fn chosen<T>(name: SheetName, one: T, two: T) -> T {
+    match name {
+        SheetName::One => one,
+        SheetName::Two => two,
     }
 }
 

@@ -1,5 +1,7 @@
 mod bare;
 mod conversion;
+mod counted_lists;
+mod counts;
 mod desk;
 mod generated;
 mod lists;

@@ -20,7 +20,8 @@ static slice keep2 = {.name = "keep2", .size = 2, .most = 40000};
 static slice flip2 = {.name = "flip2", .size = 2, .most = 40000};
 static slice output = {.name = "out", .size = 2, .most = 70000};
 static slice file = {.name = "file", .size = 1, .most = 140000};
-static slice *const registers[] = {&font, &cu, &panel, &keep1, &flip1, &keep2, &flip2, &output, &file};
+static slice held = {.name = "counts", .size = 2, .most = 2 * PAILRADISH_STRIPS};
+static slice *const registers[] = {&font, &cu, &panel, &keep1, &flip1, &keep2, &flip2, &output, &file, &held};
 
 /* No registers: the words of the last conversion, the bytes of the font's words, and the text of a label. */
 static slice last_written = {.name = "written", .size = 2, .most = 70000};
@@ -131,6 +132,110 @@ static sheet next_sheet(void)
     return next_number() == 1 ? (sheet){&keep1, &flip1} : (sheet){&keep2, &flip2};
 }
 
+/* The counts of a call. They are no slice: they are handed over, and handed back, by value. */
+
+static uint16_t held_word(size_t place)
+{
+    return place < held.count ? ((const uint16_t *)held.values)[place] : 0;
+}
+
+/* The register has two words for each count, the high one first. Words that are not there are 0. */
+static pailradish_counts held_counts(void)
+{
+    pailradish_counts counts;
+
+    for (size_t strip = 0; strip < PAILRADISH_STRIPS; strip++)
+        counts.lit[strip] = (uint32_t)held_word(2 * strip) << 16 | held_word(2 * strip + 1);
+    return counts;
+}
+
+static void hold_counts(pailradish_counts counts)
+{
+    uint16_t *words;
+
+    set_count(&held, 2 * PAILRADISH_STRIPS);
+    words = held.values;
+    for (size_t strip = 0; strip < PAILRADISH_STRIPS; strip++) {
+        words[2 * strip] = (uint16_t)(counts.lit[strip] >> 16);
+        words[2 * strip + 1] = (uint16_t)counts.lit[strip];
+    }
+}
+
+/* The panel has this shape: what 8 does not refuse. */
+static bool panel_is(pailradish_shape shape)
+{
+    return shape.row_words >= 1 && shape.row_words <= PAILRADISH_ROW_WORDS && shape.rows >= 1 && shape.rows <= PAILRADISH_ROWS
+        && shape.width >= 1 && shape.width <= PAILRADISH_STRIP_COLUMNS && PAILRADISH_STRIPS * shape.width <= 16 * shape.row_words
+        && panel.count >= (size_t)shape.row_words * shape.rows;
+}
+
+static uint32_t lit_in_row(size_t first_word, uint32_t from, uint32_t upto)
+{
+    const uint16_t *row = (const uint16_t *)panel.values + first_word;
+    uint32_t sum = 0;
+
+    for (uint32_t column = from; column < upto; column++)
+        sum += row[column / 16] >> (15 - column % 16) & 1;
+    return sum;
+}
+
+/* The true counts: those of the panel's dots, one by one; zeros where it has no such shape. */
+static pailradish_counts lit_dots(pailradish_shape shape)
+{
+    pailradish_counts counts = {{0}};
+
+    if (!panel_is(shape))
+        return counts;
+    for (uint32_t row = 0; row < shape.rows; row++) {
+        for (uint32_t strip = 0; strip < PAILRADISH_STRIPS; strip++)
+            counts.lit[strip] += lit_in_row((size_t)row * shape.row_words, strip * shape.width, (strip + 1) * shape.width);
+    }
+    return counts;
+}
+
+/* What a call with counts was handed, and what was lit before it. */
+typedef struct {
+    pailradish_shape shape;
+    pailradish_counts given, lit;
+} tally;
+
+/* The call is handed true counts, or those of the register. */
+static tally true_tally(pailradish_shape shape)
+{
+    pailradish_counts lit = lit_dots(shape);
+
+    return (tally){shape, lit, lit};
+}
+
+static tally held_tally(pailradish_shape shape)
+{
+    return (tally){shape, held_counts(), lit_dots(shape)};
+}
+
+/* After the call, once the panel has been taken back: each count is the one given, and the dots that are lit now, without those that were.
+   So a count that was true is true again. Of a refusal they are those given, since the panel is as it was. */
+static void check_counts(const char *call, const tally *before, pailradish_counts counts)
+{
+    pailradish_counts lit = lit_dots(before->shape);
+
+    for (size_t strip = 0; strip < PAILRADISH_STRIPS; strip++) {
+        if (counts.lit[strip] != before->given.lit[strip] + lit.lit[strip] - before->lit.lit[strip])
+            breach("a count is not the one given and the dots gained, without those lost", call);
+    }
+}
+
+static void answer_painted(const char *call, const tally *before, pailradish_painted painted)
+{
+    answer_reply(call, painted.reply);
+    check_counts(call, before, painted.counts);
+}
+
+static void answer_settled(const char *call, const tally *before, pailradish_settled settled)
+{
+    answer_number(call, settled.number);
+    check_counts(call, before, settled.counts);
+}
+
 /* The text of the label goes into its slice. */
 static pailradish_call next_call(void)
 {
@@ -145,11 +250,28 @@ static pailradish_call next_call(void)
     return read;
 }
 
+static pailradish_painted painted_by(pailradish_call call, pailradish_counts counts)
+{
+    return pailradish_paint(lend(&font), font.count, call, lend(&text), text.count, lend_to_write(&panel), panel.count, counts);
+}
+
+/* Painting without counts is no export: it is answered by the one with counts, which never refuses true ones. */
 static void paint(void)
 {
     pailradish_call call = next_call();
+    tally before = true_tally(call.shape);
 
-    answer_reply("paint", pailradish_paint(lend(&font), font.count, call, lend(&text), text.count, lend_to_write(&panel), panel.count));
+    answer_painted("paint", &before, painted_by(call, before.given));
+}
+
+static void paint_lit(void)
+{
+    pailradish_call call = next_call();
+    tally before = held_tally(call.shape);
+    pailradish_painted painted = painted_by(call, before.given);
+
+    answer_painted("paintlit", &before, painted);
+    hold_counts(painted.counts);
 }
 
 static void fresh(void)
@@ -177,13 +299,41 @@ static void join(void)
                                           keep2.count, lend(&flip2), flip2.count));
 }
 
+static pailradish_settled applied_by(sheet applied, pailradish_shape shape, pailradish_counts counts)
+{
+    return pailradish_apply(shape, lend(applied.keep), applied.keep->count, lend(applied.flip), applied.flip->count,
+                            lend_to_write(&panel), panel.count, counts);
+}
+
+/* As painting without counts. */
 static void apply(void)
 {
     sheet applied = next_sheet();
     pailradish_shape shape = next_shape();
+    tally before = true_tally(shape);
 
-    answer_number("apply", pailradish_apply(shape, lend(applied.keep), applied.keep->count, lend(applied.flip), applied.flip->count,
-                                            lend_to_write(&panel), panel.count));
+    answer_settled("apply", &before, applied_by(applied, shape, before.given));
+}
+
+static void apply_lit(void)
+{
+    sheet applied = next_sheet();
+    pailradish_shape shape = next_shape();
+    tally before = held_tally(shape);
+    pailradish_settled settled = applied_by(applied, shape, before.given);
+
+    answer_settled("applylit", &before, settled);
+    hold_counts(settled.counts);
+}
+
+static void clear(void)
+{
+    pailradish_shape shape = next_shape();
+    tally before = held_tally(shape);
+    pailradish_settled settled = pailradish_clear(shape, lend_to_write(&panel), panel.count, before.given);
+
+    answer_settled("clear", &before, settled);
+    hold_counts(settled.counts);
 }
 
 /* Conversion. */
@@ -233,10 +383,10 @@ static const struct {
     const char *name;
     void (*perform)(void);
 } commands[] = {
-    {"check", check},     {"measure", measure}, {"deskcheck", desk_check}, {"deskmeasure", desk_measure}, {"words", words},
-    {"paint", paint},     {"fresh", fresh},     {"gather", gather},        {"join", join},                {"apply", apply},
-    {"convert", convert}, {"written", written}, {"show", show},            {"glyph", pass_over},          {"dots", pass_over},
-    {"row", pass_over},   {"program", pass_over},
+    {"check", check},        {"measure", measure}, {"deskcheck", desk_check}, {"deskmeasure", desk_measure}, {"words", words},
+    {"paint", paint},        {"fresh", fresh},     {"gather", gather},        {"join", join},                {"apply", apply},
+    {"paintlit", paint_lit}, {"clear", clear},     {"applylit", apply_lit},   {"convert", convert},          {"written", written},
+    {"show", show},          {"glyph", pass_over}, {"dots", pass_over},       {"row", pass_over},            {"program", pass_over},
 };
 
 static void perform(const char *name)

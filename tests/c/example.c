@@ -18,8 +18,10 @@ int main(void)
     size_t words = pailradish_words(bytes, count, font, 32768).words;
     pailradish_call call = {.shape = {.row_words = 64, .rows = 16, .width = 32},
                             .label = {.strip = 0, .x = 1, .y = 12, .mode = PAILRADISH_PAINT}};
-    pailradish_reply reply = pailradish_paint(font, words, call, (const uint8_t *)"Kick", 4, panel, 64 * 16);
-    if (reply.number != PAILRADISH_DONE)
-        return refused(reply.number);
-    printf("pen %d, substitutes %u\n", (int)reply.pen, (unsigned)reply.substitutes);
+    pailradish_counts counts = {{0}}; /* no dot of the panel is lit */
+    pailradish_painted painted = pailradish_paint(font, words, call, (const uint8_t *)"Kick", 4, panel, 64 * 16, counts);
+    if (painted.reply.number != PAILRADISH_DONE)
+        return refused(painted.reply.number);
+    counts = painted.counts; /* for the next call, and for the dimmer */
+    printf("pen %d, substitutes %u, lit %u\n", (int)painted.reply.pen, (unsigned)painted.reply.substitutes, (unsigned)counts.lit[0]);
 }

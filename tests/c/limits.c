@@ -8,6 +8,7 @@
 /* A kerned font of 256 codes, 82 rows and 796 words in each, all of it empty. */
 static const uint16_t font[PAILRADISH_FONT_WORDS] = {0x9000, 0, 255, 0, 0, 0, 0, 0, 65535, 82, 0, 0, 796};
 static const uint8_t text[PAILRADISH_LABEL_BYTES + 1];
+static const pailradish_counts none;
 /* Longer than the largest panel, so that it is not too short for one that is a word or a row larger. */
 static uint16_t panel[2 * PAILRADISH_PANEL_WORDS];
 
@@ -15,27 +16,62 @@ static const pailradish_call most = {{PAILRADISH_ROW_WORDS, PAILRADISH_ROWS, PAI
                                      {PAILRADISH_STRIPS - 1, PAILRADISH_MOST_PLACE, PAILRADISH_MOST_PLACE, PAILRADISH_INVERT}};
 static int status;
 
-static void expect(const char *what, pailradish_reply reply, uint32_t number)
+static void expect(const char *what, uint32_t answer, uint32_t number)
 {
-    if (reply.number == number)
+    if (answer == number)
         return;
-    printf("%s: %" PRIu32 ", not %" PRIu32 "\n", what, reply.number, number);
+    printf("%s: %" PRIu32 ", not %" PRIu32 "\n", what, answer, number);
     status = 1;
 }
 
-static pailradish_reply with_text(size_t bytes)
+static uint32_t painting(pailradish_call call, size_t text_bytes, size_t panel_words, pailradish_counts counts)
 {
-    return pailradish_paint(font, PAILRADISH_FONT_WORDS, most, text, bytes, panel, PAILRADISH_PANEL_WORDS);
+    return pailradish_paint(font, PAILRADISH_FONT_WORDS, call, text, text_bytes, panel, panel_words, counts).reply.number;
 }
 
-static pailradish_reply with_panel(size_t words)
+static uint32_t with_text(size_t bytes)
 {
-    return pailradish_paint(font, PAILRADISH_FONT_WORDS, most, text, PAILRADISH_LABEL_BYTES, panel, words);
+    return painting(most, bytes, PAILRADISH_PANEL_WORDS, none);
 }
 
-static pailradish_reply with_call(pailradish_call call)
+static uint32_t with_panel(size_t words)
 {
-    return pailradish_paint(font, PAILRADISH_FONT_WORDS, call, text, PAILRADISH_LABEL_BYTES, panel, 2 * PAILRADISH_PANEL_WORDS);
+    return painting(most, PAILRADISH_LABEL_BYTES, words, none);
+}
+
+static uint32_t with_call(pailradish_call call)
+{
+    return painting(call, PAILRADISH_LABEL_BYTES, 2 * PAILRADISH_PANEL_WORDS, none);
+}
+
+static uint32_t clearing(pailradish_counts counts)
+{
+    return pailradish_clear(most.shape, panel, PAILRADISH_PANEL_WORDS, counts).number;
+}
+
+/* The sheet puts out every dot, and the panel has none. */
+static uint32_t applying(pailradish_counts counts)
+{
+    static const uint16_t dark[PAILRADISH_PANEL_WORDS];
+
+    return pailradish_apply(most.shape, dark, PAILRADISH_PANEL_WORDS, dark, PAILRADISH_PANEL_WORDS, panel, PAILRADISH_PANEL_WORDS,
+                            counts).number;
+}
+
+/* Nothing alters a dot, so that a count is refused for what it is alone: over the dots of its strip. */
+static void expect_of_counts(size_t strip)
+{
+    pailradish_counts full = none, over;
+
+    full.lit[strip] = PAILRADISH_STRIP_COLUMNS * PAILRADISH_ROWS;
+    over = full;
+    over.lit[strip]++;
+    expect("painting with a full strip", painting(most, 0, PAILRADISH_PANEL_WORDS, full), PAILRADISH_DONE);
+    expect("clearing with a full strip", clearing(full), PAILRADISH_DONE);
+    expect("applying with a full strip", applying(full), PAILRADISH_DONE);
+    expect("painting with more", painting(most, 0, PAILRADISH_PANEL_WORDS, over), PAILRADISH_COUNT_RANGE);
+    expect("clearing with more", clearing(over), PAILRADISH_COUNT_RANGE);
+    expect("applying with more", applying(over), PAILRADISH_COUNT_RANGE);
 }
 
 /* The call `most` with another number in one place. */
@@ -64,5 +100,7 @@ int main(void)
     EXPECT(label.x, PAILRADISH_LEAST_PLACE - 1, PAILRADISH_PLACE_RANGE);
     EXPECT(label.y, PAILRADISH_LEAST_PLACE - 1, PAILRADISH_PLACE_RANGE);
     EXPECT(label.mode, PAILRADISH_INVERT + 1, PAILRADISH_MODE_RANGE);
+    for (size_t strip = 0; strip < PAILRADISH_STRIPS; strip++)
+        expect_of_counts(strip);
     return status;
 }

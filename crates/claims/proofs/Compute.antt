@@ -12,7 +12,9 @@ use Rattle.claims.specs.Limits.{oneDot, oddLimits, cuSizeLimits, cuCount
 use Rattle.claims.specs.Limits.{cuCodeLimits, spacingLimits, drawingLimits, roomLimits, writingLimits}
 use Rattle.claims.specs.Limits.{beside, inOrder, plainFlaws, kernedFlaws, paintFlaws, measureFlaws, paintedBy, measuredBy, labelOrder}
 use Rattle.claims.specs.Limits.{cuFlaws, convertedBy, printedBy, planFlaws, plannedBy, conversionOrder}
-use Rattle.sheets.proofs.Compute.{computing as below}
+use Rattle.claims.specs.Counts.{painted as paintedCounting, refusedPainting, lostPainting, cleared, applied, spareApplied}
+use Rattle.claims.specs.Counts.{countLimits, litDots}
+use Rattle.counts.proofs.Compute.{computing as below}
 
 -- the worked cases
 unfoldable pub workedCases : Unit {0}
@@ -58,6 +60,11 @@ unfoldable pub conversionFlaws : Unit {0}
 unfolding cuFlaws convertedBy printedBy planFlaws plannedBy conversionOrder
 conversionFlaws = tt
 
+-- the counts
+unfoldable pub countTables : Unit {0}
+unfolding paintedCounting refusedPainting lostPainting cleared applied spareApplied countLimits litDots
+countTables = tt
+
 unfoldable pub computing : Unit {0}
-unfolding below workedCases fonts seen fontTables edgeTables fileLimits calls conversions labelFlaws conversionFlaws
+unfolding below countTables workedCases fonts seen fontTables edgeTables fileLimits calls conversions labelFlaws conversionFlaws
 computing = tt

@@ -4,3 +4,4 @@ pub mod Cases
 pub mod Fonts
 pub mod Edges
 pub mod Limits
+pub mod Counts

@@ -2,3 +2,4 @@ pub mod Cases
 pub mod Fonts
 pub mod Edges
 pub mod Limits
+pub mod Counts

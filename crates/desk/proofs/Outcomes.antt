@@ -1,4 +1,5 @@
--- Two outcomes that a contract permits are equal, for each function that C calls: the reply, and every word of a lent slice.
+-- Two outcomes that a contract permits are equal, for each function that C calls: the reply with the counts in it, and every word of a lent
+-- slice.
 use mathlib.Core.Path.{_≡_, sym, _∙_}
 use denote.Ref.{now}
 use contract.Lifetimes.{Lfts}
@@ -13,6 +14,7 @@ use Rattle.desk.proofs.pailradish_fresh as fresh
 use Rattle.desk.proofs.pailradish_gather as gather
 use Rattle.desk.proofs.pailradish_join as join
 use Rattle.desk.proofs.pailradish_apply as apply
+use Rattle.desk.proofs.pailradish_clear as clear
 use Rattle.desk.proofs.pailradish_convert as convert
 
 pub check-one : OneReply 1 check.Kinds.ps check.Kinds.r check.Reads.Post
@@ -56,6 +58,12 @@ pub apply-one : (κs : Lfts 3) (a : Dens κs apply.Kinds.ps) (r o : resT apply.K
     → apply.Reads.Post κs a r e → apply.Reads.Post κs a o e′
     → (r ≡ o) × (now (e .1 .1 .1 .0) ≡ now (e′ .1 .1 .1 .0))
 apply-one κs a r o e e′ p q = (p .0 ∙ sym (q .0), p .1 ∙ sym (q .1))
+
+pub clear-one : (κs : Lfts 1) (a : Dens κs clear.Kinds.ps) (r o : resT clear.Kinds.r κs .Denot)
+    (e e′ : AtExit (endedOf 1 clear.Kinds.ps clear.Kinds.r) κs)
+    → clear.Reads.Post κs a r e → clear.Reads.Post κs a o e′
+    → (r ≡ o) × (now (e .1 .0) ≡ now (e′ .1 .0))
+clear-one κs a r o e e′ p q = (p .0 ∙ sym (q .0), p .1 ∙ sym (q .1))
 
 pub convert-one : (κs : Lfts 2) (a : Dens κs convert.Kinds.ps) (r o : resT convert.Kinds.r κs .Denot)
     (e e′ : AtExit (endedOf 2 convert.Kinds.ps convert.Kinds.r) κs)

@@ -5,15 +5,15 @@ use paint::Label;
 use paint::Reply;
 use paint::Shape;
 ghost use mathlib.Core.Path.{_≡_};
-ghost use mathlib.Core.List.{[], _∷_};
 ghost use lib.ListN.{length};
 ghost use Rattle.words.specs.Lent.{given, after};
 ghost use Rattle.fontbytes.specs.File.{fileNumber};
 ghost use Rattle.convert.specs.Conversion.{conversionOf, outputAfter};
 ghost use Rattle.paint.specs.Sheet.{sheetOf};
-ghost use Rattle.paint.specs.Label.{replyOf, paintAfter, measureFile};
-ghost use Rattle.sheets.specs.Sheet.{freshNumber, freshAfter, joinNumber, joinAfter, applyNumber, applyAfter, gatherReply};
-ghost use Rattle.desk.specs.Desk.{callFrom, gatheredBy, answerOf, writtenOf};
+ghost use Rattle.paint.specs.Label.{measureFile};
+ghost use Rattle.sheets.specs.Sheet.{freshNumber, freshAfter, joinNumber, joinAfter, gatherReply};
+ghost use Rattle.counts.specs.Calls.{paintedOf, applyCounted, clearCounted, settledOf};
+ghost use Rattle.desk.specs.Desk.{callFrom, gatheredBy, countedBy, answerOf, paintedFrom, settledFrom, writtenOf};
 ghost use Rattle.desk.specs.Desk.{wordsNumber, wordsAnswer, wordsAfter};
 
 // One label call as C hands it: on which panel, and where.
@@ -29,6 +29,26 @@ pub struct Answer {
     pub number: u32,
     pub pen: i32,
     pub substitutes: u32,
+}
+
+// The lit dots of each strip.
+#[repr(C)]
+pub struct Counts {
+    pub lit: [u32; 32],
+}
+
+// What painting answers: that, and the counts.
+#[repr(C)]
+pub struct Painted {
+    pub answer: Answer,
+    pub counts: Counts,
+}
+
+// What applying and clearing answer: the number and the counts.
+#[repr(C)]
+pub struct Settled {
+    pub number: u32,
+    pub counts: Counts,
 }
 
 // What converting, and making words of bytes, answer.
@@ -108,12 +128,40 @@ pub extern "C" fn pailradish_words(bytes: &[u8], out: &mut [u16]) -> Written
     }
 }
 
-#[no_mangle]
-pub extern "C" fn pailradish_paint(font: &[u16], c: Call, text: &[u8], panel: &mut [u16]) -> Answer
-    ensures { λ r. ⌜ r ≡ answerOf (replyOf (c .shape) (length (given panel) ∷ []) (callFrom (given font) c (given text))) ⌝ }
-    ensures panel { λ r. ⌜ after panel ≡ paintAfter (c .shape) (callFrom (given font) c (given text)) (given panel) ⌝ }
+fn painted_of(painted: counts::Painted) -> Painted
+    ensures { λ r. ⌜ r ≡ paintedFrom painted ⌝ }
 {
-    answer_of(paint::paint(font, c.shape, c.label, text, panel))
+    let reply = painted.reply;
+    let lit = painted.counts;
+    Painted {
+        answer: answer_of(reply),
+        counts: Counts { lit },
+    }
+}
+
+fn settled_of(settled: counts::Settled) -> Settled
+    ensures { λ r. ⌜ r ≡ settledFrom settled ⌝ }
+{
+    let lit = settled.counts;
+    Settled {
+        number: settled.number,
+        counts: Counts { lit },
+    }
+}
+
+#[no_mangle]
+pub extern "C" fn pailradish_paint(
+    font: &[u16],
+    c: Call,
+    text: &[u8],
+    panel: &mut [u16],
+    counts: Counts,
+) -> Painted
+    ensures { λ r. ⌜ r ≡ paintedFrom (paintedOf (c .shape) (callFrom (given font) c (given text)) (given panel) (counts .lit)) ⌝ }
+    ensures panel { λ r. ⌜ after panel ≡ countedBy c (given font) (given text) (given panel) (counts .lit) .panel ⌝ }
+{
+    let lit = counts.lit;
+    painted_of(counts::paint(font, c.shape, c.label, text, panel, lit))
 }
 
 #[no_mangle]
@@ -156,11 +204,27 @@ pub extern "C" fn pailradish_join(
 }
 
 #[no_mangle]
-pub extern "C" fn pailradish_apply(s: Shape, keep: &[u16], flip: &[u16], panel: &mut [u16]) -> u32
-    ensures { λ r. ⌜ r ≡ applyNumber s (sheetOf (given keep) (given flip)) (given panel) ⌝ }
-    ensures panel { λ r. ⌜ after panel ≡ applyAfter s (sheetOf (given keep) (given flip)) (given panel) ⌝ }
+pub extern "C" fn pailradish_apply(
+    s: Shape,
+    keep: &[u16],
+    flip: &[u16],
+    panel: &mut [u16],
+    counts: Counts,
+) -> Settled
+    ensures { λ r. ⌜ r ≡ settledFrom (settledOf (applyCounted s (sheetOf (given keep) (given flip)) (given panel) (counts .lit))) ⌝ }
+    ensures panel { λ r. ⌜ after panel ≡ applyCounted s (sheetOf (given keep) (given flip)) (given panel) (counts .lit) .panel ⌝ }
 {
-    sheets::apply(s, keep, flip, panel)
+    let lit = counts.lit;
+    settled_of(counts::apply(s, keep, flip, panel, lit))
+}
+
+#[no_mangle]
+pub extern "C" fn pailradish_clear(s: Shape, panel: &mut [u16], counts: Counts) -> Settled
+    ensures { λ r. ⌜ r ≡ settledFrom (settledOf (clearCounted s (given panel) (counts .lit))) ⌝ }
+    ensures panel { λ r. ⌜ after panel ≡ clearCounted s (given panel) (counts .lit) .panel ⌝ }
+{
+    let lit = counts.lit;
+    settled_of(counts::clear(s, panel, lit))
 }
 
 #[no_mangle]

@@ -1,10 +1,10 @@
 -- A label call: its refusals, its reply and what it leaves on the panel or the sheet. What ends in `With` speaks of a font that has been
 -- read, by its face; the rest of a call that has a file.
-use Prim.Native.Nat.{ℕ}
+use Prim.Native.Nat.{ℕ, _+_, _*_}
 use mathlib.Core.Path.{_≡_}
-use mathlib.Core.Bool.{Bool, true, false, cond, _||_}
+use mathlib.Core.Bool.{Bool, true, false, cond, _||_, _&&_}
 use mathlib.Core.List.{List, [], _∷_}
-use lib.Dec.{ltb, eqb}
+use lib.Dec.{ltb, leb, eqb}
 use lib.IntN.{ℤ, pos}
 use lib.ListN.{length}
 use Rattle.words.specs.declared.Effect.{Effect}
@@ -21,7 +21,7 @@ use Rattle.paint.specs.declared.Pen.{Pen}
 use Rattle.paint.specs.declared.Finish.{Finish}
 use Rattle.paint.specs.declared.Reply.{Reply}
 use Rattle.paint.specs.declared.Reply.the-variants.{Done, Refused}
-use Rattle.paint.specs.Panel.{panelWords, panelNumber}
+use Rattle.paint.specs.Panel.{panelWords, panelNumber, oneRow}
 use Rattle.paint.specs.Pen.{penAt, penAlong, stepsOf, strokeOf, labelEffect}
 use Rattle.paint.specs.Sheet.{Sheet, lengths, joined}
 
@@ -109,6 +109,13 @@ paintWith face s l text panel =
     cond (eqb (numberWith s (length panel ∷ []) l (length text)) 0)
     (altered 0 (panelWords s) (effectWith face s l text) panel)
     panel
+
+-- the words of one row, with what the label paints on that row of the panel
+unfoldable pub rowWith : Face → Shape → Label → List ℕ → ℕ → List ℕ → List ℕ
+rowWith face s l text row words =
+    cond (leb row 255 && eqb (numberWith (oneRow s) (length words ∷ []) l (length text)) 0)
+    (altered 0 (s .rowwords) (λ w. effectWith face s l text (row * s .rowwords + w)) words)
+    words
 
 unfoldable pub paintAfter : Shape → Call → List ℕ → List ℕ
 paintAfter s call panel =

@@ -11,6 +11,10 @@ use Rattle.paint.specs.declared.Strip.{Strip}
 abbrev pub panelWords : Shape → ℕ
 panelWords s = s .rowwords * s .rows
 
+-- a panel of the same columns that has one row
+abbrev pub oneRow : Shape → Shape
+oneRow s = record { rowwords = s .rowwords; rows = 1; width = s .width }
+
 -- "Strip k is columns kW to kW + W - 1"
 abbrev pub stripOf : Shape → ℕ → Strip
 stripOf s k = record { from = k * s .width; upto = k * s .width + s .width }

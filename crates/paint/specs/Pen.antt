@@ -68,6 +68,17 @@ strokeOf s l =
       mode = modeOf (l .mode);
     }
 
+-- the same on a panel that is one row of another: the baseline counts from that row
+unfoldable pub strokeInRow : Shape → Label → ℕ → Stroke
+strokeInRow s l row =
+    record {
+      rowwords = s .rowwords;
+      rows = s .rows;
+      strip = stripOf s (l .strip);
+      y = placeOf (l .y) - row;
+      mode = modeOf (l .mode);
+    }
+
 -- the words of the panel under a stroke
 abbrev pub strokeWords : Stroke → ℕ
 strokeWords k = k .rowwords * k .rows

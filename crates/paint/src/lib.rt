@@ -21,14 +21,14 @@ ghost use Rattle.fonts.specs.Face.{dotOf, faceFrom};
 ghost use Rattle.fontbytes.specs.File.{fileNumber};
 ghost use Rattle.paint.specs.Panel.{panelWords, stripOf, badShape, badPanel};
 ghost use Rattle.paint.specs.Pen.{penAt, penAfter, penAlong, speltSteps, stepsOf, farthest, Starting, Near};
-ghost use Rattle.paint.specs.Pen.{strokeOf, strokeWords, Drawable};
+ghost use Rattle.paint.specs.Pen.{strokeOf, strokeInRow, strokeWords, Drawable};
 ghost use Rattle.paint.specs.Pen.{onPanel, pictureEffect, labelEffect};
 ghost use Rattle.paint.specs.Reach.{shared, fromColumn, uptoColumn, reachOver, reachOf, inFile, spansIn, twoWords, window};
 ghost use Rattle.paint.specs.Reach.{marked, rowDrawn, rowsDrawn, rowsKept, Nearby, Within};
 ghost use Rattle.paint.specs.Sheet.{sheetOf, lengthsOf};
 ghost use Rattle.paint.specs.declared.Reply.the-variants.{Done};
 ghost use Rattle.paint.specs.Label.{callOf, labelNumber, numberWith, lastPen, finishOf, replyWith, replyOf};
-ghost use Rattle.paint.specs.Label.{paintWith, paintAfter, joinWith, measureNumber, measureWith, measureOf, measureFile};
+ghost use Rattle.paint.specs.Label.{paintWith, rowWith, paintAfter, joinWith, measureNumber, measureWith, measureOf, measureFile};
 ghost use Rattle.paint.specs.Label.{TellsWith, TellsCall, TellsMeasure};
 
 // The size of a panel: words per row, rows, and the columns of a strip.
@@ -108,7 +108,7 @@ impl Shape {
 
 impl Strip {
     // Strip k of a panel.
-    fn of(s: Shape, k: u32) -> Strip
+    pub fn of(s: Shape, k: u32) -> Strip
         ensures { λ r. ⌜ r ≡ stripOf s k ⌝ }
     {
         let width = s.width as usize;
@@ -153,6 +153,22 @@ impl Stroke {
             strip: Strip::of(s, l.strip),
             y: words::place_of(l.y),
             mode: Mode::of(l.mode),
+        }
+    }
+
+    // For a panel that is one row of another: the row of the baseline counts from that row.
+    fn in_row(s: Shape, l: Label, row: usize) -> Stroke
+        ensures { λ r. ⌜ r ≡ strokeInRow s l row ⌝ }
+    {
+        let k = Stroke::of(s, l);
+        let strip = k.strip;
+        let mode = k.mode;
+        Stroke {
+            rowwords: k.rowwords,
+            rows: k.rows,
+            strip,
+            y: words::past(k.y, row),
+            mode,
         }
     }
 }
@@ -365,14 +381,14 @@ fn shared_columns(g: Glyph, k: Stroke, left: usize) -> Strip
 }
 
 // The columns of a word from the one of this place on.
-fn from_column(place: usize) -> u16
+pub fn from_column(place: usize) -> u16
     ensures { λ r. ⌜ r ≡ fromColumn place ⌝ }
 {
     0xFFFF >> (place % 16)
 }
 
 // The columns of a word up to the one of this place.
-fn upto_column(place: usize) -> u16
+pub fn upto_column(place: usize) -> u16
     ensures { λ r. ⌜ r ≡ uptoColumn place ⌝ }
 {
     0xFFFF - (0x7FFF >> (place % 16))
@@ -973,7 +989,7 @@ fn label_number(l: Label, bytes: usize) -> u32
 }
 
 // What a label is refused for with a font that has been read, where it is lent one slice of so many words.
-fn number_with(s: Shape, lent: usize, l: Label, bytes: usize) -> u32
+pub fn number_with(s: Shape, lent: usize, l: Label, bytes: usize) -> u32
     ensures { λ r. ⌜ r ≡ numberWith s (lent ∷ []) l bytes ⌝ }
 {
     if bad_panel(s, lent) {
@@ -1000,6 +1016,40 @@ pub fn paint_label(
         return Reply::Refused(refusal);
     }
     done(paint_text(font, v, Stroke::of(s, l), Pen::at(l.x), text, panel))
+}
+
+// Paints on the words of one row what a label paints on that row of a panel, with a font that has been read: so it is found out what the
+// label would leave there. Nothing is altered where the label is refused, where the row is over 255, or where the words are too few.
+pub fn paint_row(
+    font: &[u16],
+    v: View,
+    s: Shape,
+    l: Label,
+    text: &[u8],
+    row: usize,
+    words: &mut [u16],
+)
+    ensures { λ r. ⌜ after words ≡ rowWith (faceFrom v (given font)) s l (given text) row (given words) ⌝ }
+{
+    let one = Shape {
+        rowwords: s.rowwords,
+        rows: 1,
+        width: s.width,
+    };
+    if 255 < row {
+        return;
+    }
+    if number_with(one, words.len(), l, text.len()) != 0 {
+        return;
+    }
+    paint_text(
+        font,
+        v,
+        Stroke::in_row(one, l, row),
+        Pen::at(l.x),
+        text,
+        words,
+    );
 }
 
 // Joins a label's effect onto keep and flip, with a font that has been read.

@@ -8,7 +8,7 @@ use lib.Dec.{eqb}
 use lib.ListN.{take}
 use lib.Seq.{take-take}
 use Rattle.paint.specs.declared.Shape.{Shape}
-use Rattle.preview.specs.Line.{afterLine}
+use Rattle.preview.specs.Line.{Dots, afterLine}
 use Rattle.preview.specs.Lines.{most, ended, unended, afterLines}
 use Rattle.preview.proofs.Keeping.{kept-paints}
 
@@ -44,11 +44,11 @@ unended-on begun (b ∷ first) more =
     (unended-on (begun ++ (b ∷ [])) first more)
     (eqb b 10)
 
-pub painted-on : (font : List ℕ) (s : Shape) (first more : List (List ℕ)) (panel : List ℕ)
-    → afterLines font s (first ++ more) panel ≡ afterLines font s more (afterLines font s first panel)
+pub painted-on : (font : List ℕ) (s : Shape) (first more : List (List ℕ)) (dots : Dots)
+    → afterLines font s (first ++ more) dots ≡ afterLines font s more (afterLines font s first dots)
 unfolding afterLines
-painted-on font s [] more panel = refl
-painted-on font s (line ∷ first) more panel = painted-on font s first more (afterLine font s line panel)
+painted-on font s [] more dots = refl
+painted-on font s (line ∷ first) more dots = painted-on font s first more (afterLine font s line dots)
 
 -- ---- a line of which only the first bytes are kept
 
@@ -59,19 +59,19 @@ cut-on (suc n) [] more = refl
 cut-on (suc n) (b ∷ line) more = ap (λ (l : List ℕ). b ∷ l) (cut-on n line more)
 
 module _ (font : List ℕ) (s : Shape) where
-  cut-paints : (begun bytes panel : List ℕ)
-      → afterLines font s (ended (take most begun) bytes) panel ≡ afterLines font s (ended begun bytes) panel
+  cut-paints : (begun bytes : List ℕ) (dots : Dots)
+      → afterLines font s (ended (take most begun) bytes) dots ≡ afterLines font s (ended begun bytes) dots
   unfolding ended afterLines
-  cut-paints begun [] panel = refl
-  cut-paints begun (b ∷ bytes) panel =
+  cut-paints begun [] dots = refl
+  cut-paints begun (b ∷ bytes) dots =
       by-test
       (λ (t : Bool).
-      afterLines font s (cond t (take most begun ∷ ended [] bytes) (ended (take most begun ++ (b ∷ [])) bytes)) panel
-      ≡ afterLines font s (cond t (begun ∷ ended [] bytes) (ended (begun ++ (b ∷ [])) bytes)) panel)
-      (ap (afterLines font s (ended [] bytes)) (kept-paints font s begun panel))
-      (sym (cut-paints (take most begun ++ (b ∷ [])) bytes panel)
-      ∙ ap (λ (l : List ℕ). afterLines font s (ended l bytes) panel) (cut-on most begun (b ∷ []))
-      ∙ cut-paints (begun ++ (b ∷ [])) bytes panel)
+      afterLines font s (cond t (take most begun ∷ ended [] bytes) (ended (take most begun ++ (b ∷ [])) bytes)) dots
+      ≡ afterLines font s (cond t (begun ∷ ended [] bytes) (ended (begun ++ (b ∷ [])) bytes)) dots)
+      (ap (afterLines font s (ended [] bytes)) (kept-paints font s begun dots))
+      (sym (cut-paints (take most begun ++ (b ∷ [])) bytes dots)
+      ∙ ap (λ (l : List ℕ). afterLines font s (ended l bytes) dots) (cut-on most begun (b ∷ []))
+      ∙ cut-paints (begun ++ (b ∷ [])) bytes dots)
       (eqb b 10)
 
 cut-unended : (begun bytes : List ℕ) → take most (unended (take most begun) bytes) ≡ take most (unended begun bytes)
@@ -89,13 +89,13 @@ cut-unended begun (b ∷ bytes) =
     (eqb b 10)
 
 -- what is read in two parts, and of the line that the first part leaves only the first bytes are kept
-pub painted-in-parts : (font : List ℕ) (s : Shape) (begun first more panel : List ℕ)
-    → afterLines font s (ended begun (first ++ more)) panel
-    ≡ afterLines font s (ended (take most (unended begun first)) more) (afterLines font s (ended begun first) panel)
-painted-in-parts font s begun first more panel =
-    ap (λ (l : List (List ℕ)). afterLines font s l panel) (ended-on begun first more)
-    ∙ painted-on font s (ended begun first) (ended (unended begun first) more) panel
-    ∙ sym (cut-paints font s (unended begun first) more (afterLines font s (ended begun first) panel))
+pub painted-in-parts : (font : List ℕ) (s : Shape) (begun first more : List ℕ) (dots : Dots)
+    → afterLines font s (ended begun (first ++ more)) dots
+    ≡ afterLines font s (ended (take most (unended begun first)) more) (afterLines font s (ended begun first) dots)
+painted-in-parts font s begun first more dots =
+    ap (λ (l : List (List ℕ)). afterLines font s l dots) (ended-on begun first more)
+    ∙ painted-on font s (ended begun first) (ended (unended begun first) more) dots
+    ∙ sym (cut-paints font s (unended begun first) more (afterLines font s (ended begun first) dots))
 
 pub unended-in-parts : (begun first more : List ℕ)
     → take most (unended (take most (unended begun first)) more) ≡ take most (unended begun (first ++ more))

@@ -11,7 +11,7 @@ use lib.Seq.{take-all, length-take-le}
 use borrow.Author.Tests.{lt-ltb, ltb-true, ltb-false}
 use Rattle.paint.specs.declared.Shape.{Shape}
 use Rattle.preview.specs.declared.label.Line.the-variants.{Passed, Other}
-use Rattle.preview.specs.Line.{longest, withoutReturn, kindOf, lineOf, afterLine}
+use Rattle.preview.specs.Line.{longest, withoutReturn, kindOf, lineOf, Dots, afterLine}
 use Rattle.preview.specs.Lines.{most}
 use Rattle.preview.proofs.Lines.{passed-line, other-line}
 
@@ -34,20 +34,20 @@ long-kind (b ∷ bytes) long = rw (lt-ltb longest (length (b ∷ bytes)) long) (
     by true = inl refl
     by false = inr refl
 
-long-line : (font : List ℕ) (s : Shape) (line panel : List ℕ) → most ≤ length line → panel ≡ afterLine font s line panel
+long-line : (font : List ℕ) (s : Shape) (line : List ℕ) (dots : Dots) → most ≤ length line → dots ≡ afterLine font s line dots
 unfolding lineOf
-long-line font s line panel long =
+long-line font s line dots long =
     let cut = return-is-one line in
-    ⊎-elim (passed-line font line panel s) (other-line font line panel s) (long-kind (withoutReturn line) (omega arith))
+    ⊎-elim (passed-line font line s dots) (other-line font line s dots) (long-kind (withoutReturn line) (omega arith))
 
 -- what is kept of a line paints what the whole line paints
-pub kept-paints : (font : List ℕ) (s : Shape) (line panel : List ℕ)
-    → afterLine font s (take most line) panel ≡ afterLine font s line panel
-kept-paints font s line panel = by (ltb most (length line)) refl
+pub kept-paints : (font : List ℕ) (s : Shape) (line : List ℕ) (dots : Dots)
+    → afterLine font s (take most line) dots ≡ afterLine font s line dots
+kept-paints font s line dots = by (ltb most (length line)) refl
   where
-    by : (t : Bool) → ltb most (length line) ≡ t → afterLine font s (take most line) panel ≡ afterLine font s line panel
+    by : (t : Bool) → ltb most (length line) ≡ t → afterLine font s (take most line) dots ≡ afterLine font s line dots
     by true more =
         let long : most < length line = ltb-true most (length line) more in
         let whole = length-take-le most line (omega arith) in
-        sym (long-line font s (take most line) panel (omega arith)) ∙ long-line font s line panel (omega arith)
-    by false few = ap (λ (l : List ℕ). afterLine font s l panel) (take-all most line (ltb-false most (length line) few))
+        sym (long-line font s (take most line) dots (omega arith)) ∙ long-line font s line dots (omega arith)
+    by false few = ap (λ (l : List ℕ). afterLine font s l dots) (take-all most line (ltb-false most (length line) few))

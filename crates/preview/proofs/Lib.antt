@@ -9,5 +9,6 @@ pub mod Keeping
 pub mod Cutting
 pub mod Spelling
 pub mod Taking
+pub mod Telling
 pub mod Pictures
 pub mod Outcomes

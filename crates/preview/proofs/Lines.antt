@@ -1,6 +1,6 @@
 -- What a line is, test by test.
 use Prim.Native.Nat.{ℕ, _-_, _<_, _≤_}
-use mathlib.Core.Path.{_≡_, refl, sym, ap, _∙_}
+use mathlib.Core.Path.{_≡_, refl, sym, ap, ap₂, _∙_}
 use mathlib.Core.List.{List, [], _∷_, _++_}
 use native.Mathlib.Omega.{arith}
 use borrow.Author.Tests.{lt-ltb, le-ltb, eq-eqb, ne-eqb}
@@ -11,12 +11,14 @@ use Rattle.words.proofs.Tables.{joined-length}
 use Rattle.preview.specs.declared.number.Signed.{Signed}
 use Rattle.preview.specs.declared.number.Signed.the-variants.{Number, Other as noNumber}
 use Rattle.paint.specs.declared.Shape.{Shape}
-use Rattle.paint.specs.Label.{callOf, paintAfter}
+use Rattle.paint.specs.Label.{callOf}
+use Rattle.counts.specs.declared.Painted.{Painted}
+use Rattle.counts.specs.Calls.{paintCounted, paintedOf}
 use Rattle.paint.specs.declared.Label.{Label as Label·Label}
 use Rattle.preview.specs.declared.label.Line.{Line}
 use Rattle.preview.specs.declared.label.Line.the-variants.{Label, Passed, Other}
 use Rattle.preview.specs.Number.{none}
-use Rattle.preview.specs.Line.{longest, withoutReturn, textOf, labelFrom, labelOf, kindOf, lineOf, painted, afterLine}
+use Rattle.preview.specs.Line.{longest, withoutReturn, textOf, labelFrom, labelOf, kindOf, lineOf, Dots, counted, painted, afterLine}
 
 -- ---- the carriage return
 
@@ -96,21 +98,23 @@ unfolding kindOf
 line-by-label [] r some h short e = absurd (omega arith)
 line-by-label (b ∷ bytes) r some h short e = rw (ne-eqb b 35 h, le-ltb longest (length (b ∷ bytes)) short) e
 
--- ---- the panel after a line
+-- ---- what is left after a line
 
-module _ (font line panel : List ℕ) (s : Shape) where
-  pub passed-line : Passed ≡ lineOf line → panel ≡ afterLine font s line panel
+module _ (font line : List ℕ) (s : Shape) (dots : Dots) where
+  pub passed-line : Passed ≡ lineOf line → dots ≡ afterLine font s line dots
   unfolding afterLine painted
-  passed-line is = ap (λ (r : Line). painted font s r (textOf line) panel) is
+  passed-line is = ap (λ (r : Line). painted font s r (textOf line) dots) is
 
-  pub other-line : Other ≡ lineOf line → panel ≡ afterLine font s line panel
+  pub other-line : Other ≡ lineOf line → dots ≡ afterLine font s line dots
   unfolding afterLine painted
-  other-line is = ap (λ (r : Line). painted font s r (textOf line) panel) is
+  other-line is = ap (λ (r : Line). painted font s r (textOf line) dots) is
 
-  pub label-line : (l : Label·Label) (text after : List ℕ) → Label l ≡ lineOf line → text ≡ textOf line
-      → after ≡ paintAfter s (callOf font l text) panel → after ≡ afterLine font s line panel
+  pub label-line : (l : Label·Label) (text panel : List ℕ) (answer : Painted) → Label l ≡ lineOf line → text ≡ textOf line
+      → panel ≡ paintCounted s (callOf font l text) (dots .panel) (dots .counts) .panel
+      → answer ≡ paintedOf s (callOf font l text) (dots .panel) (dots .counts)
+      → counted panel (answer .counts) ≡ afterLine font s line dots
   unfolding afterLine painted
-  label-line l text after is same-text e =
-      e
-      ∙ ap (λ (t : List ℕ). paintAfter s (callOf font l t) panel) same-text
-      ∙ ap (λ (r : Line). painted font s r (textOf line) panel) is
+  label-line l text panel answer is same-text painted-so answered =
+      ap₂ counted painted-so (ap (λ (a : Painted). a .counts) answered)
+      ∙ ap (λ (t : List ℕ). painted font s (Label l) t dots) same-text
+      ∙ ap (λ (r : Line). painted font s r (textOf line) dots) is

@@ -9,8 +9,10 @@ use denote.Ref.{now}
 use denote.Triple.Clauses.{AtExit}
 use borrow.Fn.Kinds.{Dens, resT, endedOf}
 use Rattle.words.proofs.Outcomes.{OneReply}
-use Rattle.preview.specs.Lines.{ended, linesOf, afterLines}
+use Rattle.preview.specs.Line.{counted}
+use Rattle.preview.specs.Lines.{zeros, ended, linesOf, afterLines}
 use Rattle.preview.proofs.help.is_asked as is-asked
+use Rattle.preview.proofs.help.same as same
 use Rattle.preview.proofs.input.first_of as first-of
 use Rattle.preview.proofs.label.line_of as line-of
 use Rattle.preview.proofs.label.text_of as text-of
@@ -19,6 +21,7 @@ use Rattle.preview.proofs.number.part as part
 use Rattle.preview.proofs.number.signed_decimal as signed-decimal
 use Rattle.preview.proofs.painting.paint_lines as paint-lines
 use Rattle.preview.proofs.picture.picture as picture
+use Rattle.preview.proofs.tell.is_asked as counts-asked
 
 pub picture-one : (κs : Lfts 2) (a : Dens κs picture.Kinds.ps) (r o : resT picture.Kinds.r κs .Denot)
     (e e′ : AtExit (endedOf 2 picture.Kinds.ps picture.Kinds.r) κs)
@@ -26,15 +29,21 @@ pub picture-one : (κs : Lfts 2) (a : Dens κs picture.Kinds.ps) (r o : resT pic
     → (r ≡ o) × (now (e .1 .1 .0) ≡ now (e′ .1 .1 .0))
 picture-one κs a r o e e′ p q = (p .0 .ends ∙ sym (q .0 .ends), p .0 .leaves ∙ sym (q .0 .leaves))
 
--- ---- help
+-- ---- what is asked for
 
 same-answer : (r o : Bool) → (r ≡ true → o ≡ true) → (o ≡ true → r ≡ true) → r ≡ o
 same-answer true o there back = sym (there refl)
 same-answer false true there back = back refl
 same-answer false false there back = refl
 
+pub same-one : OneReply 2 same.Kinds.ps same.Kinds.r same.Reads.Post
+same-one κs a r o e e′ p q = same-answer r o (λ yes. q .1 (p .0 yes)) (λ yes. p .1 (q .0 yes))
+
 pub is-asked-one : OneReply 1 is-asked.Kinds.ps is-asked.Kinds.r is-asked.Reads.Post
 is-asked-one κs a r o e e′ p q = same-answer r o (λ yes. q .1 (p .0 yes)) (λ yes. p .1 (q .0 yes))
+
+pub counts-asked-one : OneReply 1 counts-asked.Kinds.ps counts-asked.Kinds.r counts-asked.Reads.Post
+counts-asked-one κs a r o e e′ p q = same-answer r o (λ yes. q .1 (p .0 yes)) (λ yes. p .1 (q .0 yes))
 
 -- ---- numbers and lines
 
@@ -64,15 +73,15 @@ first-of-one κs a r o e e′ p q = p ∙ sym q
 
 -- ---- painting
 
--- where the same bytes were read and the reads went as well
+-- where the same bytes were read and the reads went as well: the same panel is left, and the same counts
 pub paint-lines-one : (κs : Lfts 2) (a : Dens κs paint-lines.Kinds.ps) (r o : resT paint-lines.Kinds.r κs .Denot)
     (e e′ : AtExit (endedOf 2 paint-lines.Kinds.ps paint-lines.Kinds.r) κs)
     (p : paint-lines.Reads.Post κs a r e) (q : paint-lines.Reads.Post κs a o e′)
-    → r ≡ o → p .read ≡ q .read → now (e .1 .1 .0) ≡ now (e′ .1 .1 .0)
+    → r .whole ≡ o .whole → p .read ≡ q .read → counted (now (e .1 .1 .0)) (r .counts) ≡ counted (now (e′ .1 .1 .0)) (o .counts)
 paint-lines-one κs a r o e e′ p q same-reply same-bytes =
     p .paints
     ∙ ap₂
-    (λ (t : Bool) (l : List ℕ). afterLines (now (a .0)) (a .1 .0) (cond t (linesOf l) (ended [] l)) (now (a .1 .1 .0)))
+    (λ (t : Bool) (l : List ℕ). afterLines (now (a .0)) (a .1 .0) (cond t (linesOf l) (ended [] l)) (counted (now (a .1 .1 .0)) zeros))
     same-reply
     same-bytes
     ∙ sym (q .paints)

@@ -12,9 +12,10 @@ use lib.Seq.{take-all, take-suc-set, take-at, length-take-le, drop-cons}
 use borrow.Author.Tests.{ltb-true, ltb-false, eq-eqb, ne-eqb}
 use Rattle.paint.specs.declared.Shape.{Shape}
 use Rattle.preview.specs.declared.painting.Lines.{Lines}
-use Rattle.preview.specs.Line.{afterLine}
-use Rattle.preview.specs.Lines.{most, lastNumber, firstLine, nextLine, longerLine, linesAfter, kept, putByte, spaceAfter, Taken}
-use Rattle.preview.specs.Lines.{ended, unended, linesOf, afterLines, Bytes, Painted}
+use Rattle.preview.specs.declared.painting.Progress.{Progress}
+use Rattle.preview.specs.Line.{Dots, counted, afterLine}
+use Rattle.preview.specs.Lines.{most, lastNumber, nextLine, longerLine, linesAfter, kept, putByte, spaceAfter, Taken}
+use Rattle.preview.specs.Lines.{zeros, firstProgress, ended, unended, linesOf, afterLines, Bytes, Painted}
 use Rattle.preview.proofs.Keeping.{kept-paints}
 use Rattle.preview.proofs.Cutting.{by-test, painted-on, painted-in-parts, unended-in-parts}
 
@@ -93,74 +94,88 @@ kept-bytes (b ∷ bytes) lines space whole =
 
 -- ---- one byte
 
-module _ (font : List ℕ) (s : Shape) (b : ℕ) (lines : Lines) (space panel : List ℕ) (lines′ : Lines) where
+-- a panel, and the counts that are kept so far
+abbrev pub dotsOf : List ℕ → Progress → Dots
+dotsOf panel so-far = counted panel (so-far .counts)
+
+module _ (font : List ℕ) (s : Shape) (b : ℕ) (before : Progress) (space panel : List ℕ) (after : Progress) where
   pub newline-taken : b ≡ 10 → (line panel′ : List ℕ)
-      → lines′ ≡ nextLine lines → line ≡ kept lines space → panel′ ≡ afterLine font s line panel
-      → Taken font s (b ∷ []) lines space panel lines′ space panel′
+      → after .lines ≡ nextLine (before .lines)
+      → line ≡ kept (before .lines) space
+      → dotsOf panel′ after ≡ afterLine font s line (dotsOf panel before)
+      → Taken font s (b ∷ []) before space panel after space panel′
   unfolding linesAfter spaceAfter ended afterLines
   newline-taken is line panel′ next is-kept painted =
       let newline = eq-eqb b 10 is in
       record {
-        counts = rw newline next;
+        numbers = rw newline next;
         keeps = rw newline;
-        paints = rw newline (painted ∙ ap (λ (l : List ℕ). afterLine font s l panel) is-kept);
+        paints = rw newline (painted ∙ ap (λ (l : List ℕ). afterLine font s l (dotsOf panel before)) is-kept);
       }
 
   pub other-taken : (b ≡ 10 → ⊥) → (space′ : List ℕ)
-      → lines′ ≡ longerLine lines → space′ ≡ putByte (lines .length) b space
-      → Taken font s (b ∷ []) lines space panel lines′ space′ panel
+      → after .lines ≡ longerLine (before .lines)
+      → after .counts ≡ before .counts
+      → space′ ≡ putByte (before .lines .length) b space
+      → Taken font s (b ∷ []) before space panel after space′ panel
   unfolding linesAfter spaceAfter ended afterLines
-  other-taken other space′ longer put =
+  other-taken other space′ longer same-counts put =
       let no-newline = ne-eqb b 10 other in
-      record { counts = rw no-newline longer; keeps = rw no-newline put; paints = rw no-newline }
+      record { numbers = rw no-newline longer; keeps = rw no-newline put; paints = rw no-newline (ap (counted panel) same-counts) }
 
 -- ---- byte by byte
 
 -- what is left of the bytes does what all of them did at first
-pub record Left (font : List ℕ) (s : Shape) (bytes : List ℕ) (lines₀ : Lines) (space₀ panel₀ : List ℕ)
-    (i : ℕ) (lines : Lines) (space panel : List ℕ) : Type 0 where
+pub record Left (font : List ℕ) (s : Shape) (bytes : List ℕ) (before : Progress) (space₀ panel₀ : List ℕ)
+    (i : ℕ) (so-far : Progress) (space panel : List ℕ) : Type 0 where
   pub whole : length space ≡ most
-  pub counts : linesAfter bytes lines₀ ≡ linesAfter (drop i bytes) lines
-  pub keeps : spaceAfter bytes lines₀ space₀ ≡ spaceAfter (drop i bytes) lines space
-  pub paints : afterLines font s (ended (kept lines₀ space₀) bytes) panel₀
-      ≡ afterLines font s (ended (kept lines space) (drop i bytes)) panel
+  pub numbers : linesAfter bytes (before .lines) ≡ linesAfter (drop i bytes) (so-far .lines)
+  pub keeps : spaceAfter bytes (before .lines) space₀ ≡ spaceAfter (drop i bytes) (so-far .lines) space
+  pub paints : afterLines font s (ended (kept (before .lines) space₀) bytes) (dotsOf panel₀ before)
+      ≡ afterLines font s (ended (kept (so-far .lines) space) (drop i bytes)) (dotsOf panel so-far)
 
-module _ (font : List ℕ) (s : Shape) (bytes : List ℕ) (lines₀ : Lines) (space₀ panel₀ : List ℕ) where
-  pub all-left : length space₀ ≡ most → Left font s bytes lines₀ space₀ panel₀ 0 lines₀ space₀ panel₀
-  all-left whole = record { whole = whole; counts = refl; keeps = refl; paints = refl }
+module _ (font : List ℕ) (s : Shape) (bytes : List ℕ) (before : Progress) (space₀ panel₀ : List ℕ) where
+  pub all-left : length space₀ ≡ most → Left font s bytes before space₀ panel₀ 0 before space₀ panel₀
+  all-left whole = record { whole = whole; numbers = refl; keeps = refl; paints = refl }
 
-  module _ (i : ℕ) (lines : Lines) (space panel : List ℕ) (left : Left font s bytes lines₀ space₀ panel₀ i lines space panel) where
-    pub one-taken : i < length bytes → (lines′ : Lines) (space′ panel′ : List ℕ)
-        → Taken font s (getD bytes i 0 ∷ []) lines space panel lines′ space′ panel′
-        → Left font s bytes lines₀ space₀ panel₀ (i + 1) lines′ space′ panel′
+  module _ (i : ℕ) (so-far : Progress) (space panel : List ℕ) (left : Left font s bytes before space₀ panel₀ i so-far space panel) where
+    pub one-taken : i < length bytes → (after : Progress) (space′ panel′ : List ℕ)
+        → Taken font s (getD bytes i 0 ∷ []) so-far space panel after space′ panel′
+        → Left font s bytes before space₀ panel₀ (i + 1) after space′ panel′
     unfolding linesAfter spaceAfter
-    one-taken here lines′ space′ panel′ took =
+    one-taken here after space′ panel′ took =
         let b = getD bytes i 0 in
+        let lines = so-far .lines in
+        let dots = dotsOf panel so-far in
         let rest = drop (i + 1) bytes in
         let here-on : drop i bytes ≡ b ∷ rest = rw (add-one, drop-cons bytes i 0) in
-        let keeps-it = ap₂ kept (took .counts) (took .keeps) ∙ kept-byte lines space b (left .whole) in
+        let keeps-it = ap₂ kept (took .numbers) (took .keeps) ∙ kept-byte lines space b (left .whole) in
         record {
           whole = ap length (took .keeps) ∙ space-length (b ∷ []) lines space ∙ left .whole;
-          counts = left .counts ∙ ap (λ (l : List ℕ). linesAfter l lines) here-on ∙ ap (linesAfter rest) (sym (took .counts));
+          numbers = left .numbers ∙ ap (λ (l : List ℕ). linesAfter l lines) here-on ∙ ap (linesAfter rest) (sym (took .numbers));
           keeps =
               left .keeps
               ∙ ap (λ (l : List ℕ). spaceAfter l lines space) here-on
-              ∙ ap₂ (spaceAfter rest) (sym (took .counts)) (sym (took .keeps));
+              ∙ ap₂ (spaceAfter rest) (sym (took .numbers)) (sym (took .keeps));
           paints =
               left .paints
-              ∙ ap (λ (l : List ℕ). afterLines font s (ended (kept lines space) l) panel) here-on
-              ∙ painted-in-parts font s (kept lines space) (b ∷ []) rest panel
-              ∙ ap₂ (λ (l p : List ℕ). afterLines font s (ended l rest) p) (sym keeps-it) (sym (took .paints));
+              ∙ ap (λ (l : List ℕ). afterLines font s (ended (kept lines space) l) dots) here-on
+              ∙ painted-in-parts font s (kept lines space) (b ∷ []) rest dots
+              ∙ ap₂ (λ (l : List ℕ) (d : Dots). afterLines font s (ended l rest) d) (sym keeps-it) (sym (took .paints));
         }
 
-    pub all-taken : length bytes ≤ i → Taken font s bytes lines₀ space₀ panel₀ lines space panel
+    pub all-taken : length bytes ≤ i → Taken font s bytes before space₀ panel₀ so-far space panel
     unfolding linesAfter spaceAfter ended afterLines
     all-taken past =
+        let lines = so-far .lines in
         let none = drop-of-length-le bytes past in
         record {
-          counts = sym (left .counts ∙ ap (λ (l : List ℕ). linesAfter l lines) none);
+          numbers = sym (left .numbers ∙ ap (λ (l : List ℕ). linesAfter l lines) none);
           keeps = sym (left .keeps ∙ ap (λ (l : List ℕ). spaceAfter l lines space) none);
-          paints = sym (left .paints ∙ ap (λ (l : List ℕ). afterLines font s (ended (kept lines space) l) panel) none);
+          paints =
+              sym
+              (left .paints
+              ∙ ap (λ (l : List ℕ). afterLines font s (ended (kept lines space) l) (dotsOf panel so-far)) none);
         }
 
 -- ---- part by part
@@ -176,57 +191,67 @@ bytes-on (b ∷ first) more here on zero = here 0
 bytes-on (b ∷ first) more here on (suc i) = bytes-on first more (λ j. here (suc j)) on i
 
 -- what has been read so far: its lines that have ended are painted, and of the line behind them the first bytes are kept
-pub record Reading (font : List ℕ) (s : Shape) (panel₀ : List ℕ) (lines : Lines) (space panel : List ℕ) : Type 0 where
+pub record Reading (font : List ℕ) (s : Shape) (panel₀ : List ℕ) (so-far : Progress) (space panel : List ℕ) : Type 0 where
   pub read : List ℕ
   pub bytes : Bytes read
   pub whole : length space ≡ most
-  pub keeps : kept lines space ≡ take most (unended [] read)
-  pub paints : panel ≡ afterLines font s (ended [] read) panel₀
+  pub keeps : kept (so-far .lines) space ≡ take most (unended [] read)
+  pub paints : dotsOf panel so-far ≡ afterLines font s (ended [] read) (counted panel₀ zeros)
 
 module _ (font : List ℕ) (s : Shape) (panel₀ : List ℕ) where
-  pub nothing-read : (lines : Lines) (space : List ℕ) → lines ≡ firstLine → length space ≡ most → Reading font s panel₀ lines space panel₀
+  pub nothing-read : (so-far : Progress) (space : List ℕ) → so-far ≡ firstProgress → length space ≡ most
+      → Reading font s panel₀ so-far space panel₀
   unfolding ended unended afterLines
-  nothing-read lines space first whole =
-      record { read = []; bytes = no-bytes; whole = whole; keeps = ap (λ (l : Lines). kept l space) first; paints = refl }
+  nothing-read so-far space first whole =
+      record {
+        read = [];
+        bytes = no-bytes;
+        whole = whole;
+        keeps = ap (λ (p : Progress). kept (p .lines) space) first;
+        paints = ap (dotsOf panel₀) first;
+      }
 
-  module _ (lines : Lines) (space panel : List ℕ) (so-far : Reading font s panel₀ lines space panel) where
-    pub more-read : (bytes : List ℕ) (lines′ : Lines) (space′ panel′ : List ℕ)
-        → Taken font s bytes lines space panel lines′ space′ panel′
+  module _ (so-far : Progress) (space panel : List ℕ) (reading : Reading font s panel₀ so-far space panel) where
+    pub more-read : (bytes : List ℕ) (after : Progress) (space′ panel′ : List ℕ)
+        → Taken font s bytes so-far space panel after space′ panel′
         → Bytes bytes
-        → Reading font s panel₀ lines′ space′ panel′
-    more-read bytes lines′ space′ panel′ taken are-bytes =
-        let read = so-far .read in
+        → Reading font s panel₀ after space′ panel′
+    more-read bytes after space′ panel′ taken are-bytes =
+        let read = reading .read in
+        let lines = so-far .lines in
         record {
           read = read ++ bytes;
-          bytes = bytes-on read bytes (so-far .bytes) are-bytes;
-          whole = ap length (taken .keeps) ∙ space-length bytes lines space ∙ so-far .whole;
+          bytes = bytes-on read bytes (reading .bytes) are-bytes;
+          whole = ap length (taken .keeps) ∙ space-length bytes lines space ∙ reading .whole;
           keeps =
-              ap₂ kept (taken .counts) (taken .keeps)
-              ∙ kept-bytes bytes lines space (so-far .whole)
-              ∙ ap (λ (l : List ℕ). take most (unended l bytes)) (so-far .keeps)
+              ap₂ kept (taken .numbers) (taken .keeps)
+              ∙ kept-bytes bytes lines space (reading .whole)
+              ∙ ap (λ (l : List ℕ). take most (unended l bytes)) (reading .keeps)
               ∙ unended-in-parts [] read bytes;
           paints =
               taken .paints
-              ∙ ap₂ (λ (l p : List ℕ). afterLines font s (ended l bytes) p) (so-far .keeps) (so-far .paints)
-              ∙ sym (painted-in-parts font s [] read bytes panel₀);
+              ∙ ap₂ (λ (l : List ℕ) (d : Dots). afterLines font s (ended l bytes) d) (reading .keeps) (reading .paints)
+              ∙ sym (painted-in-parts font s [] read bytes (counted panel₀ zeros));
         }
 
     -- a read failed
-    pub read-in-part : Painted font s panel₀ false panel
-    read-in-part = record { read = so-far .read; bytes = so-far .bytes; paints = so-far .paints }
+    pub read-in-part : Painted font s panel₀ (record { whole = false; counts = so-far .counts }) panel
+    read-in-part = record { read = reading .read; bytes = reading .bytes; paints = reading .paints }
 
     -- the last line is painted too
-    pub read-whole : (line panel′ : List ℕ) → line ≡ kept lines space → panel′ ≡ afterLine font s line panel
-        → Painted font s panel₀ true panel′
+    pub read-whole : (line panel′ counts : List ℕ) → line ≡ kept (so-far .lines) space
+        → counted panel′ counts ≡ afterLine font s line (dotsOf panel so-far)
+        → Painted font s panel₀ (record { whole = true; counts = counts }) panel′
     unfolding linesOf afterLines
-    read-whole line panel′ is painted =
-        let read = so-far .read in
+    read-whole line panel′ counts is painted =
+        let read = reading .read in
+        let first = counted panel₀ zeros in
         record {
           read = read;
-          bytes = so-far .bytes;
+          bytes = reading .bytes;
           paints =
               painted
-              ∙ ap₂ (afterLine font s) (is ∙ so-far .keeps) (so-far .paints)
-              ∙ kept-paints font s (unended [] read) (afterLines font s (ended [] read) panel₀)
-              ∙ sym (painted-on font s (ended [] read) (unended [] read ∷ []) panel₀);
+              ∙ ap₂ (afterLine font s) (is ∙ reading .keeps) (reading .paints)
+              ∙ kept-paints font s (unended [] read) (afterLines font s (ended [] read) first)
+              ∙ sym (painted-on font s (ended [] read) (unended [] read ∷ []) first);
         }

@@ -3,3 +3,4 @@ pub mod Line
 pub mod Lines
 pub mod Number
 pub mod Picture
+pub mod Tell

@@ -6,6 +6,7 @@ use lib.Dec.{ltb, eqb}
 use lib.ListN.{length, getD, take, drop}
 use Rattle.paint.specs.declared.Shape.{Shape}
 use Rattle.paint.specs.Label.{callOf, paintAfter}
+use Rattle.counts.specs.Calls.{paintCounted}
 use Rattle.preview.specs.declared.number.Signed.{Signed}
 use Rattle.preview.specs.declared.number.Signed.the-variants.{Number, Other as noNumber}
 use Rattle.preview.specs.declared.label.Line.{Line}
@@ -63,11 +64,30 @@ kindOf (b ∷ bytes) = cond (eqb b 35) Passed (cond (ltb longest (length (b ∷ 
 unfoldable pub lineOf : List ℕ → Line
 lineOf line = kindOf (withoutReturn line)
 
--- the panel after a line: its label is painted, and any other line paints nothing
-unfoldable pub painted : List ℕ → Shape → Line → List ℕ → List ℕ → List ℕ
-painted font s (Label l) text panel = paintAfter s (callOf font l text) panel
-painted font s Passed text panel = panel
-painted font s Other text panel = panel
+-- the dots of a panel, and beside it the counts of those that are lit in each strip
+pub record Dots : Type 0 where
+  pub panel : List ℕ
+  pub counts : List ℕ
 
-unfoldable pub afterLine : List ℕ → Shape → List ℕ → List ℕ → List ℕ
-afterLine font s line panel = painted font s (lineOf line) (textOf line) panel
+abbrev pub counted : List ℕ → List ℕ → Dots
+counted panel counts = record { panel = panel; counts = counts }
+
+-- what is left after a line: its label is painted, with the counts, and any other line changes nothing
+unfoldable pub painted : List ℕ → Shape → Line → List ℕ → Dots → Dots
+painted font s (Label l) text dots =
+    let after = paintCounted s (callOf font l text) (dots .panel) (dots .counts) in
+    counted (after .panel) (after .counts)
+painted font s Passed text dots = dots
+painted font s Other text dots = dots
+
+unfoldable pub afterLine : List ℕ → Shape → List ℕ → Dots → Dots
+afterLine font s line dots = painted font s (lineOf line) (textOf line) dots
+
+-- and the panel that is left where no counts are kept
+unfoldable pub plainPainted : List ℕ → Shape → Line → List ℕ → List ℕ → List ℕ
+plainPainted font s (Label l) text panel = paintAfter s (callOf font l text) panel
+plainPainted font s Passed text panel = panel
+plainPainted font s Other text panel = panel
+
+unfoldable pub plainLine : List ℕ → Shape → List ℕ → List ℕ → List ℕ
+plainLine font s line panel = plainPainted font s (lineOf line) (textOf line) panel

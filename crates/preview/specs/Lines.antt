@@ -1,13 +1,15 @@
 -- The lines of what is read, by docs/PROGRAMS.md, "preview": "A line ends at a newline; the last one may have none."
 use Prim.Native.Nat.{ℕ, _+_, _<_}
 use mathlib.Core.Path.{_≡_}
-use mathlib.Core.Bool.{Bool, cond}
+use mathlib.Core.Bool.{cond}
 use mathlib.Core.List.{List, [], _∷_, _++_}
 use lib.Dec.{eqb, ltb}
-use lib.ListN.{getD, take, set}
+use lib.ListN.{getD, take, set, replicate}
 use Rattle.paint.specs.declared.Shape.{Shape}
 use Rattle.preview.specs.declared.painting.Lines.{Lines}
-use Rattle.preview.specs.Line.{afterLine}
+use Rattle.preview.specs.declared.painting.Progress.{Progress}
+use Rattle.preview.specs.declared.painting.Answer.{Answer}
+use Rattle.preview.specs.Line.{Dots, counted, afterLine, plainLine}
 
 -- ---- the lines of bytes, of any length
 
@@ -25,21 +27,30 @@ unended begun (b ∷ bytes) = cond (eqb b 10) (unended [] bytes) (unended (begun
 unfoldable pub linesOf : List ℕ → List (List ℕ)
 linesOf bytes = ended [] bytes ++ (unended [] bytes ∷ [])
 
--- the panel after lines, in their order
-unfoldable pub afterLines : List ℕ → Shape → List (List ℕ) → List ℕ → List ℕ
-afterLines font s [] panel = panel
-afterLines font s (line ∷ lines) panel = afterLines font s lines (afterLine font s line panel)
+-- what is left after lines, in their order
+unfoldable pub afterLines : List ℕ → Shape → List (List ℕ) → Dots → Dots
+afterLines font s [] dots = dots
+afterLines font s (line ∷ lines) dots = afterLines font s lines (afterLine font s line dots)
+
+unfoldable pub plainLines : List ℕ → Shape → List (List ℕ) → List ℕ → List ℕ
+plainLines font s [] panel = panel
+plainLines font s (line ∷ lines) panel = plainLines font s lines (plainLine font s line panel)
 
 -- numbers that are bytes
 unfoldable pub Bytes : List ℕ → Type 0
 Bytes numbers = (i : ℕ) → getD numbers i 0 < 256
 
--- What painting all lines leaves: for the bytes that were read, which no contract can name, all of their lines are painted where every
--- read went well; else those that had ended.
-pub record Painted (font : List ℕ) (s : Shape) (panel : List ℕ) (whole : Bool) (after : List ℕ) : Type 0 where
+-- the counts of a dark panel
+abbrev pub zeros : List ℕ
+zeros = replicate 32 0
+
+-- What painting all lines leaves, with counts that are zeros at first: for the bytes that were read, which no contract can name, all of
+-- their lines are painted where every read went well; else those that had ended.
+pub record Painted (font : List ℕ) (s : Shape) (panel : List ℕ) (answer : Answer) (after : List ℕ) : Type 0 where
   pub read : List ℕ
   pub bytes : Bytes read
-  pub paints : after ≡ afterLines font s (cond whole (linesOf read) (ended [] read)) panel
+  pub paints : counted after (answer .counts)
+      ≡ afterLines font s (cond (answer .whole) (linesOf read) (ended [] read)) (counted panel zeros)
 
 -- ---- the line that is being read, and the space that holds its first bytes
 
@@ -53,6 +64,10 @@ lastNumber = 18446744073709551615
 
 abbrev pub firstLine : Lines
 firstLine = record { number = 1; length = 0 }
+
+-- nothing has been read, and no dot is lit
+abbrev pub firstProgress : Progress
+firstProgress = record { lines = firstLine; counts = zeros }
 
 unfoldable pub nextLine : Lines → Lines
 nextLine lines =
@@ -83,8 +98,9 @@ spaceAfter (b ∷ bytes) lines space =
     spaceAfter bytes (linesAfter (b ∷ []) lines) (cond (eqb b 10) space (putByte (lines .length) b space))
 
 -- what taking bytes of the lines answers and leaves
-pub record Taken (font : List ℕ) (s : Shape) (bytes : List ℕ) (lines : Lines) (space panel : List ℕ)
-    (lines′ : Lines) (space′ panel′ : List ℕ) : Type 0 where
-  pub counts : lines′ ≡ linesAfter bytes lines
-  pub keeps : space′ ≡ spaceAfter bytes lines space
-  pub paints : panel′ ≡ afterLines font s (ended (kept lines space) bytes) panel
+pub record Taken (font : List ℕ) (s : Shape) (bytes : List ℕ) (before : Progress) (space panel : List ℕ)
+    (after : Progress) (space′ panel′ : List ℕ) : Type 0 where
+  pub numbers : after .lines ≡ linesAfter bytes (before .lines)
+  pub keeps : space′ ≡ spaceAfter bytes (before .lines) space
+  pub paints : counted panel′ (after .counts)
+      ≡ afterLines font s (ended (kept (before .lines) space) bytes) (counted panel (before .counts))

@@ -6,7 +6,7 @@ ghost use mathlib.Core.Bool.{true};
 ghost use Rattle.words.specs.Lent.{given};
 ghost use Rattle.preview.specs.Help.{HelpAsked};
 
-fn same(a: &[u8], b: &[u8]) -> bool
+pub fn same(a: &[u8], b: &[u8]) -> bool
     ensures { λ r. ⌜ (r ≡ true → now (a .entry) ≡ now (b .entry)) × (now (a .entry) ≡ now (b .entry) → r ≡ true) ⌝ }
 {
     if a.len() != b.len() {
@@ -35,7 +35,7 @@ pub fn is_asked(count: usize, first: &[u8]) -> bool
 pub fn print() {
     say_written(io::write_all(
         STDOUT_FILENO,
-        b"usage: preview FONT R H W < LINES > PICTURE
+        b"usage: preview [--counts] FONT R H W < LINES > PICTURE
 
 Paints labels on a panel and writes a picture of it (PBM, kind P4).
 FONT is a strike file. R is the words of a row of the panel, 16 dots each, H its rows, W the columns of a strip.
@@ -49,6 +49,7 @@ Each line of the input is STRIP X Y MODE TEXT, with one space behind each number
 Empty lines, and lines that begin with #, are passed over.
 
 What is wrong with a line, and how many codes of it the font does not have, is said on standard error; the rest is painted all the same.
+With --counts the lit dots of each strip are told on standard error, one line a strip.
 ",
     ));
 }

@@ -1,5 +1,5 @@
 // Paints the labels of the lines on standard input, and writes a picture of the panel on standard output, and nothing else there; or the
-// help text, where that is asked for.
+// help text, where that is asked for. Where the counts are asked for, the lit dots of each strip are told behind the picture.
 mod help;
 mod input;
 mod label;
@@ -7,6 +7,7 @@ mod message;
 mod number;
 mod painting;
 mod picture;
+mod tell;
 
 use libc::STDOUT_FILENO;
 use message::say;
@@ -34,29 +35,39 @@ enum Arguments {
     Wrong,
 }
 
-fn print(s: Shape, panel: &[u16]) {
+// Writes the picture, and answers whether it was written whole.
+fn print(s: Shape, panel: &[u16]) -> bool {
     let mut printed = [0u8; PRINTED];
     let n = picture::picture(s, panel, &mut printed);
-    say_written(io::write_all(STDOUT_FILENO, &printed[..n]));
+    let whole = io::write_all(STDOUT_FILENO, &printed[..n]);
+    say_written(whole);
+    whole
 }
 
 // The whole run, with a font that is not refused.
-fn run(font: &[u16], s: Shape) {
+fn run(font: &[u16], s: Shape, counts_asked: bool) {
     let mut panel = [0u16; PANEL];
     if paint::bad_panel(s, panel.len()) {
         say(b"panel");
         say_refused(8);
         return;
     }
-    if !painting::paint_lines(font, s, &mut panel) {
+    let answer = painting::paint_lines(font, s, &mut panel);
+    if !answer.whole {
         say(b"read failed\n");
         return;
     }
-    print(s, &panel);
+    if !print(s, &panel) {
+        return;
+    }
+    let counts = answer.counts;
+    if counts_asked {
+        tell::print(counts);
+    }
 }
 
 // The whole run, with the bytes of a font.
-fn run_with(bytes: &[u8], s: Shape) {
+fn run_with(bytes: &[u8], s: Shape, counts_asked: bool) {
     if FILE < bytes.len() {
         say(b"font: too long\n");
         return;
@@ -75,17 +86,20 @@ fn run_with(bytes: &[u8], s: Shape) {
         say_refused(refusal);
         return;
     }
-    run(font, s);
+    run(font, s, counts_asked);
 }
 
-fn run_file(path: &[u8], s: Shape) {
+// The whole run, with a shape, and the font's name in argument k.
+fn run_file(k: usize, s: Shape, counts_asked: bool) {
+    let mut path = io::buffer();
+    let n = os::arg(k, &mut path);
     let mut bytes = [0u8; BYTES];
-    let file = input::read_file(path, &mut bytes);
+    let file = input::read_file(&path[..n], &mut bytes);
     if file.failed {
         say(b"font: cannot be read\n");
         return;
     }
-    run_with(input::first_of(&bytes, file.bytes), s);
+    run_with(input::first_of(&bytes, file.bytes), s, counts_asked);
 }
 
 // Number k of the program's arguments, or NONE.
@@ -97,13 +111,16 @@ fn number_argument(k: usize) -> u64
     number::decimal(&text[..n])
 }
 
-fn read_arguments() -> Arguments {
-    if os::arg_count() != 5 {
+// Reads the arguments from number k on, where the font's name is.
+fn read_arguments(k: usize) -> Arguments
+    requires { ⌜ k ≤ 2 ⌝ }
+{
+    if os::arg_count() != k + 4 {
         return Arguments::Wrong;
     }
-    let rowwords = number_argument(2);
-    let rows = number_argument(3);
-    let width = number_argument(4);
+    let rowwords = number_argument(k + 1);
+    let rows = number_argument(k + 2);
+    let width = number_argument(k + 3);
     if rowwords == NONE {
         return Arguments::Wrong;
     }
@@ -120,6 +137,18 @@ fn read_arguments() -> Arguments {
     })
 }
 
+// The whole run, with the arguments from number k on.
+fn run_arguments(k: usize, counts_asked: bool)
+    requires { ⌜ k ≤ 2 ⌝ }
+{
+    let told = read_arguments(k);
+    let Arguments::Panel(s) = told else {
+        say(b"usage: preview [--counts] FONT R H W\n");
+        return;
+    };
+    run_file(k, s, counts_asked);
+}
+
 fn main() {
     let mut first = io::buffer();
     let n = os::arg(1, &mut first);
@@ -127,10 +156,9 @@ fn main() {
         help::print();
         return;
     }
-    let told = read_arguments();
-    let Arguments::Panel(s) = told else {
-        say(b"usage: preview FONT R H W\n");
+    if tell::is_asked(os::arg_count(), &first[..n]) {
+        run_arguments(2, true);
         return;
-    };
-    run_file(&first[..n], s);
+    }
+    run_arguments(1, false);
 }

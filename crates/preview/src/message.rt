@@ -13,7 +13,7 @@ pub fn say_written(whole: bool) {
     }
 }
 
-fn say_number(number: u64) {
+pub fn say_number(number: u64) {
     io::print_decimal(STDERR_FILENO, number);
 }
 
@@ -38,6 +38,7 @@ fn say_message(refusal: u32) {
         10 => say(b"x or y not -1024 to 1023"),
         11 => say(b"label over 64 bytes"),
         12 => say(b"mode over 2"),
+        30 => say(b"lit dots of a strip out of range"),
         _ => say(b"unknown number"),
     }
 }

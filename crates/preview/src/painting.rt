@@ -15,8 +15,8 @@ ghost use mathlib.Core.Path.{_≡_};
 ghost use mathlib.Core.List.{[], _∷_};
 ghost use lib.ListN.{length};
 ghost use Rattle.words.specs.Lent.{given, after};
-ghost use Rattle.preview.specs.Line.{afterLine};
-ghost use Rattle.preview.specs.Lines.{Bytes, Painted, most, firstLine, nextLine, longerLine, kept, putByte, Taken};
+ghost use Rattle.preview.specs.Line.{counted, afterLine};
+ghost use Rattle.preview.specs.Lines.{Bytes, Painted, most, firstLine, nextLine, longerLine, firstProgress, kept, putByte, Taken};
 
 // The bytes that are kept of a line: no label has so many, also where the last of them is a carriage return.
 const LINE: usize = LONGEST + 2;
@@ -67,6 +67,30 @@ impl Lines {
     }
 }
 
+// How far the lines are read: the line that is being read, and the lit dots of the strips as the lines before it have left them.
+struct Progress {
+    lines: Lines,
+    counts: [u32; 32],
+}
+
+impl Progress {
+    // No line has been read, and no dot is lit.
+    fn first() -> Progress
+        ensures { λ r. ⌜ r ≡ firstProgress ⌝ }
+    {
+        Progress {
+            lines: Lines::first(),
+            counts: [0; 32],
+        }
+    }
+}
+
+// What painting all lines answers: whether every read went well, and the lit dots of the strips.
+pub struct Answer {
+    pub whole: bool,
+    pub counts: [u32; 32],
+}
+
 // Puts a byte into the line, if it has room.
 fn put(line: &mut [u8; LINE], at: usize, b: u8)
     ensures { λ r. ⌜ after line ≡ putByte at b (given line) ⌝ }
@@ -83,21 +107,32 @@ fn line_so_far(line: &[u8; LINE], lines: Lines) -> &[u8]
     part(line, 0, lines.length)
 }
 
-// Paints the label of a line, and says what there is to say of it.
-fn paint_line(line: &[u8], number: u64, font: &[u16], s: Shape, panel: &mut [u16])
-    ensures { λ r. ⌜ after panel ≡ afterLine (given font) s (given line) (given panel) ⌝ }
+// Paints the label of a line, says what there is to say of it, and hands back the new counts.
+fn paint_line(
+    line: &[u8],
+    number: u64,
+    font: &[u16],
+    s: Shape,
+    panel: &mut [u16],
+    counts: [u32; 32],
+) -> [u32; 32]
+    ensures { λ r. ⌜ counted (after panel) r ≡ afterLine (given font) s (given line) (counted (given panel) counts) ⌝ }
 {
     let read = line_of(line);
     match read {
-        Line::Passed => {}
+        Line::Passed => counts,
         Line::Other => {
             say_line(number);
             say(b": not a label\n");
+            counts
         }
         Line::Label(label) => {
             let text = text_of(line);
-            let reply = paint::paint(font, s, label, text, panel);
+            let painted = counts::paint(font, s, label, text, panel, counts);
+            let reply = painted.reply;
+            let left = painted.counts;
             say_reply(number, reply);
+            left
         }
     }
 }
@@ -105,72 +140,107 @@ fn paint_line(line: &[u8], number: u64, font: &[u16], s: Shape, panel: &mut [u16
 // Takes one more byte of the lines.
 fn take_byte(
     b: u8,
-    before: Lines,
+    before: Progress,
     line: &mut [u8; LINE],
     font: &[u16],
     s: Shape,
     panel: &mut [u16],
-) -> Lines
+) -> Progress
     ensures { λ r. ⌜ Taken (given font) s (b ∷ []) before (given line) (given panel) r (after line) (after panel) ⌝ }
 {
+    let lines = before.lines;
+    let counts = before.counts;
     if b == b'\n' {
-        paint_line(line_so_far(line, before), before.number, font, s, panel);
-        return before.next();
+        let left = paint_line(
+            line_so_far(line, lines),
+            lines.number,
+            font,
+            s,
+            panel,
+            counts,
+        );
+        let next = lines.next();
+        return Progress {
+            lines: next,
+            counts: left,
+        };
     }
-    put(line, before.length, b);
-    before.longer()
+    put(line, lines.length, b);
+    Progress {
+        lines: lines.longer(),
+        counts,
+    }
 }
 
 // Takes more bytes of the lines. By its type the array has its length, and the slice holds bytes; a contract has neither from a type, so
 // the caller is asked for the one and told the other.
 fn take_bytes(
     bytes: &[u8],
-    before: Lines,
+    before: Progress,
     line: &mut [u8; LINE],
     font: &[u16],
     s: Shape,
     panel: &mut [u16],
-) -> Lines
+) -> Progress
     requires { ⌜ length (now line) ≡ most ⌝ }
     ensures { λ r. ⌜ Taken (given font) s (given bytes) before (given line) (given panel) r (after line) (after panel) ⌝ }
     ensures bytes { λ r. ⌜ Bytes (given bytes) ⌝ }
 {
-    let mut lines = before;
+    let mut so_far = before;
     let mut i = 0;
     while i < bytes.len() {
-        lines = take_byte(bytes[i], lines, line, font, s, panel);
+        so_far = take_byte(bytes[i], so_far, line, font, s, panel);
         i += 1;
     }
-    lines
+    so_far
 }
 
-// Paints all lines; says whether every read went well. A proved loop has to end, and nothing says that the lines do: the turns are
+// Paints all lines, with counts that are zeros at first. A proved loop has to end, and nothing says that the lines do: the turns are
 // counted down from a number that no run uses up.
-pub fn paint_lines(font: &[u16], s: Shape, panel: &mut [u16]) -> bool
+pub fn paint_lines(font: &[u16], s: Shape, panel: &mut [u16]) -> Answer
     ensures { λ r. ⌜ Painted (given font) s (given panel) r (after panel) ⌝ }
 {
     let mut bytes = [0u8; BYTES];
     let mut line = [0u8; LINE];
-    let mut lines = Lines::first();
+    let mut so_far = Progress::first();
     let mut turns = u64::MAX;
     while 0 < turns {
         turns -= 1;
         let input = read_some(&mut bytes);
+        let lines = so_far.lines;
+        let counts = so_far.counts;
         if input.failed {
-            return false;
+            return Answer {
+                whole: false,
+                counts,
+            };
         }
         if input.bytes == 0 {
-            paint_line(line_so_far(&line, lines), lines.number, font, s, panel);
-            return true;
+            let last = paint_line(
+                line_so_far(&line, lines),
+                lines.number,
+                font,
+                s,
+                panel,
+                counts,
+            );
+            return Answer {
+                whole: true,
+                counts: last,
+            };
         }
-        lines = take_bytes(
+        so_far = take_bytes(
             first_of(&bytes, input.bytes),
-            lines,
+            so_far,
             &mut line,
             font,
             s,
             panel,
         );
     }
-    false
+    let counts = so_far.counts;
+    Answer {
+        whole: false,
+        counts,
+    }
 }

@@ -1,12 +1,12 @@
 -- Words copied to a place of a list, and parts of a list that end with it.
-use Prim.Native.Nat.{ℕ, zero, suc, _+_, _-_, _<_, min}
+use Prim.Native.Nat.{ℕ, zero, suc, _+_, _-_, _<_, _≤_, min}
 use mathlib.Core.Path.{_≡_, sym, ap, _∙_}
-use mathlib.Core.List.{List, [], _∷_}
+use mathlib.Core.List.{List, [], _∷_, _++_, append-assoc}
 use native.Mathlib.Nat.{suc-min-suc}
 use native.Mathlib.Numerals.{add-one}
 use native.Mathlib.Omega.{arith}
-use lib.ListN.{length, set, take, drop, length-drop}
-use lib.Seq.{take-nil, drop-nil, paste, paste-zero, paste-suc}
+use lib.ListN.{length, set, take, drop, length-take, length-drop}
+use lib.Seq.{take-nil, take-all, take-at, drop-nil, drop-at, length-take-le, paste, paste-zero, paste-suc}
 use Rattle.words.specs.Word.{word}
 use Rattle.replay.specs.Registers.{copied, copyAfter}
 
@@ -17,6 +17,17 @@ copy-step i place from now before same room some =
     ap (λ (q : List ℕ). set q (place + i) (word from i)) same
     ∙ paste-suc before place from i 0 room some
     ∙ ap (paste before place from) (sym (add-one i))
+
+-- what has been copied is read back
+pub copied-part : (to from : List ℕ) (place n : ℕ) → place ≤ length to → length from ≡ n
+    → take n (drop place (paste to place from n)) ≡ from
+copied-part to from place n room long =
+    let front : length (take place to) ≡ place = length-take-le place to room in
+    let whole : take n from ≡ from = take-all n from (omega arith) in
+    ap (λ (l : List ℕ). take n (drop place l)) (append-assoc (take place to) (take n from) (drop (place + n) to))
+    ∙ ap (take n) (drop-at (take place to) (take n from ++ drop (place + n) to) place front)
+    ∙ take-at (take n from) (drop (place + n) to) n (ap length whole ∙ long)
+    ∙ whole
 
 -- a place past the end of the list
 module _ (from to : List ℕ) (count place room : ℕ) (past : length to < place) where
@@ -37,6 +48,14 @@ drop-least : (n : ℕ) (l : List ℕ) → drop (min n (length l)) l ≡ drop n l
 drop-least zero l = let none : min zero (length l) ≡ zero = omega arith in rw none
 drop-least (suc n) [] = drop-nil (min (suc n) 0) ∙ sym (drop-nil (suc n))
 drop-least (suc n) (x ∷ l) = rw (suc-min-suc n (length l)) (drop-least n l)
+
+-- the front of a list, by how many words it has
+module _ (n end : ℕ) (l : List ℕ) (ended : end ≡ length (take n l)) where
+  pub front-is : take end l ≡ take n l
+  front-is = ap (λ (k : ℕ). take k l) (ended ∙ length-take n l) ∙ take-least n l
+
+  pub front-fits : end ≤ length l
+  front-fits = let size = length-take n l in omega arith
 
 -- a part that is cut where the list ends
 module _ (xs : List ℕ) (from count : ℕ) where

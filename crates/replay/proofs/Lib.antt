@@ -1,5 +1,6 @@
 -- Laws that belong to no one function.
 mod Copying
+mod Counting
 mod Decimals
 mod Naming
 mod Outcomes

@@ -24,6 +24,8 @@ use Rattle.replay.proofs.registers.narrow as narrow
 use Rattle.replay.proofs.registers.keep_written as keep-written
 use Rattle.replay.proofs.registers.font_from_written as font-from-written
 use Rattle.replay.proofs.registers.set as set
+use Rattle.replay.proofs.registers.panel_end as panel-end
+use Rattle.replay.proofs.registers.keep_counts as keep-counts
 use Rattle.replay.proofs.text.put as put
 use Rattle.replay.proofs.text.put_name as put-name
 use Rattle.replay.proofs.text.put_number as put-number
@@ -39,6 +41,8 @@ use Rattle.replay.proofs.sheet_calls.answer_gather as gather-answer
 use Rattle.replay.proofs.sheet_calls.answer_join as join-answer
 use Rattle.replay.proofs.registers.show as show
 use Rattle.replay.proofs.convert_calls.answer as convert-answer
+use Rattle.replay.proofs.sheet_calls.put_refusal as put-refusal
+use Rattle.replay.proofs.count_calls.answer as count-answer
 
 pub extended-one : OneReply 0 extended.Kinds.ps extended.Kinds.r extended.Reads.Post
 extended-one κs a r o e e′ p q = p ∙ sym q
@@ -108,6 +112,15 @@ pub font-from-written-one : (κs : Lfts 2) (a : Dens κs font-from-written.Kinds
     → font-from-written.Reads.Post κs a r e → font-from-written.Reads.Post κs a o e′
     → (r ≡ o) × (now (e .1 .0) ≡ now (e′ .1 .0)) × (now (e .1 .1 .0) ≡ now (e′ .1 .1 .0))
 font-from-written-one κs a r o e e′ p q = (p .0 ∙ sym (q .0), p .1 .0 ∙ sym (q .1 .0), p .1 .1 ∙ sym (q .1 .1))
+
+pub panel-end-one : OneReply 1 panel-end.Kinds.ps panel-end.Kinds.r panel-end.Reads.Post
+panel-end-one κs a r o e e′ p q = p ∙ sym q
+
+pub keep-counts-one : (κs : Lfts 2) (a : Dens κs keep-counts.Kinds.ps) (r o : resT keep-counts.Kinds.r κs .Denot)
+    (e e′ : AtExit (endedOf 2 keep-counts.Kinds.ps keep-counts.Kinds.r) κs)
+    → keep-counts.Reads.Post κs a r e → keep-counts.Reads.Post κs a o e′
+    → (r ≡ o) × (now (e .1 .1 .0) ≡ now (e′ .1 .1 .0))
+keep-counts-one κs a r o e e′ p q = (p .0 ∙ sym (q .0), p .1 ∙ sym (q .1))
 
 pub set-one : (κs : Lfts 6) (a : Dens κs set.Kinds.ps) (r o : resT set.Kinds.r κs .Denot)
     (e e′ : AtExit (endedOf 6 set.Kinds.ps set.Kinds.r) κs)
@@ -194,6 +207,14 @@ put-reply-one κs a r o e e′ p q =
     let same = p ∙ sym q in
     (ap (λ (w : Waiting). w .1) same, ap (λ (w : Waiting). w .0) same)
 
+pub put-refusal-one : (κs : Lfts 1) (a : Dens κs put-refusal.Kinds.ps) (r o : resT put-refusal.Kinds.r κs .Denot)
+    (e e′ : AtExit (endedOf 1 put-refusal.Kinds.ps put-refusal.Kinds.r) κs)
+    → put-refusal.Reads.Post κs a r e → put-refusal.Reads.Post κs a o e′
+    → (r ≡ o) × (now (e .0) ≡ now (e′ .0))
+put-refusal-one κs a r o e e′ p q =
+    let same = p ∙ sym q in
+    (ap (λ (w : Waiting). w .1) same, ap (λ (w : Waiting). w .0) same)
+
 pub font-answer-one : (κs : Lfts 2) (a : Dens κs font-answer.Kinds.ps) (r o : resT font-answer.Kinds.r κs .Denot)
     (e e′ : AtExit (endedOf 2 font-answer.Kinds.ps font-answer.Kinds.r) κs)
     → font-answer.Reads.Post κs a r e → font-answer.Reads.Post κs a o e′
@@ -249,3 +270,19 @@ pub convert-answer-one : (κs : Lfts 4) (a : Dens κs convert-answer.Kinds.ps) (
 convert-answer-one κs a r o e e′ p q =
     let same = p ∙ sym q in
     (ap (λ (w : Waiting). w .1) same, ap (λ (w : Waiting). w .0) same)
+
+-- The calls with counts are lent the panel where it stands, so that every word of `lent` is told too.
+pub count-answer-one : (κs : Lfts 6) (a : Dens κs count-answer.Kinds.ps) (r o : resT count-answer.Kinds.r κs .Denot)
+    (e e′ : AtExit (endedOf 6 count-answer.Kinds.ps count-answer.Kinds.r) κs)
+    → count-answer.Reads.Post κs a r e → count-answer.Reads.Post κs a o e′
+    → (r .at ≡ o .at)
+    × (r .held ≡ o .held)
+    × (now (e .1 .1 .1 .1 .0) ≡ now (e′ .1 .1 .1 .1 .0))
+    × (now (e .1 .1 .1 .1 .1 .1 .1 .0) ≡ now (e′ .1 .1 .1 .1 .1 .1 .1 .0))
+count-answer-one κs a r o e e′ p q =
+    let same = p .0 ∙ sym (q .0) in (
+      ap (λ (w : Waiting). w .1) same,
+      p .1 .0 ∙ sym (q .1 .0),
+      p .1 .1 ∙ sym (q .1 .1),
+      ap (λ (w : Waiting). w .0) same,
+    )

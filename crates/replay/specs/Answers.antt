@@ -9,9 +9,12 @@ use Rattle.fonts.specs.declared.Reading.{Reading}
 use Rattle.fonts.specs.declared.Reading.the-variants.{Accepted, Refused}
 use Rattle.fonts.specs.Reading.{fontNumber, readingOf}
 use Rattle.fonts.specs.Face.{glyphFrom, dotsOf, rowOf}
-use Rattle.paint.specs.Sheet.{sheetOf}
+use Rattle.paint.specs.Sheet.{Sheet, sheetOf}
 use Rattle.paint.specs.Label.{callOf, replyOf, measureOf}
 use Rattle.sheets.specs.Sheet.{freshNumber, joinNumber, applyNumber, gatherReply}
+use Rattle.counts.specs.declared.Painted.{Painted}
+use Rattle.counts.specs.Lit.{Counted}
+use Rattle.counts.specs.Calls.{paintCounted, paintedOf, applyCounted, clearCounted}
 use Rattle.words.specs.Word.{word, over}
 use Rattle.convert.specs.declared.Conversion.{Conversion}
 use Rattle.convert.specs.Conversion.{conversionOf, conversionNumber, wordsWritten}
@@ -21,11 +24,12 @@ use Rattle.replay.specs.declared.registers.Array.the-variants.{Files, Le
 use Rattle.replay.specs.declared.registers.Register.{Register}
 use Rattle.replay.specs.declared.registers.Held.{Held}
 use Rattle.replay.specs.Names.{check, glyph, dots, row, measure, paint, fresh, gather, join, apply, keepName, flipName}
-use Rattle.replay.specs.Names.{cu, panel, out, keep1, flip1, keep2, flip2, convert, show}
+use Rattle.replay.specs.Names.{cu, panel, out, counts, keep1, flip1, keep2, flip2, convert, show, paintlit, applylit, clear}
 use Rattle.replay.specs.Lines.{numberOf, signedOf}
 use Rattle.replay.specs.Registers.{Arrays, registerOf, heldBy, wordsOf, copied, copyAfter, narrowed}
+use Rattle.replay.specs.Registers.{lentWithPanel, lentWithCounts, heldOfCounts}
 use Rattle.replay.specs.Text.{nameBytes, numberBytes, negativeBytes, valueBytes, listBytes}
-use Rattle.replay.specs.Calls.{shapeOf, labelOf, gatherCall, replyBytes}
+use Rattle.replay.specs.Calls.{shapeOf, labelOf, gatherCall, replyBytes, countsIn, countWords}
 
 -- ---- calls that read the font
 
@@ -142,6 +146,55 @@ joinAnswer line values held keeps flips =
 
 unfoldable pub joinValues : Line → List ℕ → Held → List ℕ → List ℕ → List ℕ
 joinValues line values held keeps flips = cond (eqb (line .command) join) (joinSpread values held keeps flips) values
+
+-- ---- calls with counts: `paintlit N PEN SUBSTITUTES`, `applylit N`, `clear N`
+
+unfoldable pub countsHeld : Held → List ℕ → List ℕ
+countsHeld held lent = countsIn (wordsOf lent held counts)
+
+-- what each leaves, "on `panel`, with `counts`": its number, the panel and the counts
+unfoldable pub paintLit : Line → List ℕ → List ℕ → Held → List ℕ → Counted
+paintLit line font text held lent =
+    paintCounted (shapeOf line 0) (callOf font (labelOf line 3) text) (wordsOf lent held panel) (countsHeld held lent)
+
+unfoldable pub applyLit : Line → Sheet → Held → List ℕ → Counted
+applyLit line sheet held lent = applyCounted (shapeOf line 1) sheet (wordsOf lent held panel) (countsHeld held lent)
+
+unfoldable pub clearLit : Line → Held → List ℕ → Counted
+clearLit line held lent = clearCounted (shapeOf line 0) (wordsOf lent held panel) (countsHeld held lent)
+
+-- and what painting answers
+unfoldable pub paintLitReply : Line → List ℕ → List ℕ → Held → List ℕ → Painted
+paintLitReply line font text held lent =
+    paintedOf (shapeOf line 0) (callOf font (labelOf line 3) text) (wordsOf lent held panel) (countsHeld held lent)
+
+unfoldable pub countAnswer : Line → List ℕ → List ℕ → Held → List ℕ → List ℕ → List ℕ → List ℕ
+countAnswer line font text held lent keeps flips =
+    let sheet = sheetOf (keepWords line held keeps) (flipWords line held flips) in
+    cond (eqb (line .command) paintlit) (replyBytes (line .command) (paintLitReply line font text held lent .reply))
+    (cond (eqb (line .command) applylit) (refusalBytes (line .command) (applyLit line sheet held lent .number))
+    (cond (eqb (line .command) clear) (refusalBytes (line .command) (clearLit line held lent .number)) []))
+
+-- what is held after a line, where `lent` has so many words
+unfoldable pub countHeld : Line → Held → ℕ → Held
+countHeld line held size =
+    cond (eqb (line .command) paintlit) (heldOfCounts held size)
+    (cond (eqb (line .command) applylit) (heldOfCounts held size)
+    (cond (eqb (line .command) clear) (heldOfCounts held size) held))
+
+-- and what `lent` holds: the panel and the counts are those that the call leaves
+abbrev pub panelLit : Held → Counted → List ℕ → List ℕ
+panelLit held c lent = lentWithPanel held (c .panel) lent
+
+unfoldable pub lentLit : Held → Counted → List ℕ → List ℕ
+lentLit held c lent = lentWithCounts (countWords (c .counts)) (panelLit held c lent)
+
+unfoldable pub countLent : Line → List ℕ → List ℕ → Held → List ℕ → List ℕ → List ℕ → List ℕ
+countLent line font text held lent keeps flips =
+    let sheet = sheetOf (keepWords line held keeps) (flipWords line held flips) in
+    cond (eqb (line .command) paintlit) (lentLit held (paintLit line font text held lent) lent)
+    (cond (eqb (line .command) applylit) (lentLit held (applyLit line sheet held lent) lent)
+    (cond (eqb (line .command) clear) (lentLit held (clearLit line held lent) lent) lent))
 
 -- ---- the conversion: `convert N WRITTEN`
 

@@ -1,6 +1,9 @@
 -- What a call is told by the numbers of its line, by docs/REPLAY.md, "Calls, and the line that each answers".
-use Prim.Native.Nat.{ℕ, _+_, min}
+use Prim.Native.Nat.{ℕ, _+_, _*_, _/_, _%_, min}
+use mathlib.Core.Bool.{cond}
 use mathlib.Core.List.{List, [], _∷_, _++_}
+use lib.Dec.{eqb}
+use Rattle.words.specs.Word.{word, table}
 use Rattle.paint.specs.declared.Reply.{Reply}
 use Rattle.paint.specs.declared.Shape.{Shape}
 use Rattle.paint.specs.declared.Label.{Label}
@@ -31,3 +34,17 @@ unfoldable pub replyBytes : ℕ → Reply → List ℕ
 replyBytes command reply =
     nameBytes command
     ++ (numberBytes (replyNumber reply) ++ (signedBytes (replyPen reply) ++ (numberBytes (replySubstitutes reply) ++ (10 ∷ []))))
+
+-- the counts that words are: "each count two words, the high one first", and "Words that `counts` does not hold count as 0"
+unfoldable pub countAt : List ℕ → ℕ → ℕ
+countAt words k = word words (2 * k) * 65536 + word words (2 * k + 1)
+
+unfoldable pub countsIn : List ℕ → List ℕ
+countsIn words = table 32 (countAt words)
+
+-- and the words that counts are
+unfoldable pub countWord : List ℕ → ℕ → ℕ
+countWord counts i = cond (eqb (i % 2) 0) (word counts (i / 2) / 65536) (word counts (i / 2) % 65536)
+
+unfoldable pub countWords : List ℕ → List ℕ
+countWords counts = table 64 (countWord counts)

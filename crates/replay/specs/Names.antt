@@ -19,6 +19,10 @@ out = 152120
 abbrev pub file : ℕ
 file = 06091205
 
+-- counts
+abbrev pub counts : ℕ
+counts = 031521142019
+
 -- keep1, flip1, keep2, flip2
 abbrev pub keep1 : ℕ
 keep1 = 1105051649
@@ -64,6 +68,16 @@ join = 10150914
 
 abbrev pub apply : ℕ
 apply = 0116161225
+
+-- paintlit, applylit, clear
+abbrev pub paintlit : ℕ
+paintlit = 1601091420120920
+
+abbrev pub applylit : ℕ
+applylit = 0116161225120920
+
+abbrev pub clear : ℕ
+clear = 0312050118
 
 -- convert, show
 abbrev pub convert : ℕ

@@ -1,7 +1,7 @@
 -- The registers of docs/REPLAY.md, and the arrays that they share.
 use Prim.Native.Nat.{ℕ, _-_, _%_, min}
 use mathlib.Core.Bool.{cond}
-use mathlib.Core.List.{List, [], _∷_}
+use mathlib.Core.List.{List, [], _∷_, _++_}
 use lib.Dec.{ltb, eqb}
 use lib.ListN.{length, getD, set, take, drop}
 use lib.Seq.{paste}
@@ -14,7 +14,7 @@ use Rattle.replay.specs.declared.registers.Array.{Array}
 use Rattle.replay.specs.declared.registers.Array.the-variants.{Files, Lent, Keeps, Flips, Bytes, Nowhere}
 use Rattle.replay.specs.declared.registers.Register.{Register}
 use Rattle.replay.specs.declared.registers.Held.{Held}
-use Rattle.replay.specs.Names.{font, cu, panel, out, file, keep1, flip1, keep2, flip2}
+use Rattle.replay.specs.Names.{font, cu, panel, out, file, counts, keep1, flip1, keep2, flip2}
 
 abbrev pub register : Array → ℕ → ℕ → ℕ → Register
 register array from room number = record { array = array; from = from; room = room; number = number }
@@ -31,19 +31,20 @@ registerOf name =
     (cond (eqb name flip1) (register Flips 0 40000 6)
     (cond (eqb name flip2) (register Flips 40000 40000 7)
     (cond (eqb name file) (register Bytes 0 140000 8)
-    (register Nowhere 0 0 9)))))))))
+    (cond (eqb name counts) (register Lent 110000 64 9)
+    (register Nowhere 0 0 10))))))))))
 
 -- "all empty at the start"
 unfoldable pub nothingHeld : Held
-nothingHeld = record { counts = 0 ∷ 0 ∷ 0 ∷ 0 ∷ 0 ∷ 0 ∷ 0 ∷ 0 ∷ 0 ∷ []; written = 0 }
+nothingHeld = record { counts = 0 ∷ 0 ∷ 0 ∷ 0 ∷ 0 ∷ 0 ∷ 0 ∷ 0 ∷ 0 ∷ 0 ∷ []; written = 0 }
 
 -- how many words a register holds, of `file` bytes
 unfoldable pub heldBy : Held → Register → ℕ
-heldBy held r = cond (ltb (r .number) 9) (getD (held .counts) (r .number) 0) 0
+heldBy held r = cond (ltb (r .number) 10) (getD (held .counts) (r .number) 0) 0
 
 unfoldable pub heldWith : Held → Register → ℕ → Held
 heldWith held r count =
-    cond (ltb (r .number) 9) (record { counts = set (held .counts) (r .number) count; written = held .written }) held
+    cond (ltb (r .number) 10) (record { counts = set (held .counts) (r .number) count; written = held .written }) held
 
 -- "the words that the last `convert` wrote" are so many
 unfoldable pub heldWritten : Held → ℕ → Held
@@ -154,3 +155,18 @@ unfoldable pub filesFromWritten : Held → List ℕ → List ℕ → List ℕ
 filesFromWritten held values files =
     let r = registerOf font in
     copyAfter (valuesFromWritten held values files) (keptCount held values files) files (r .from) (r .room)
+
+-- ---- what a call with counts leaves: the panel, which stands first in `lent`, and the register `counts`, which stands last
+
+unfoldable pub lentWithPanel : Held → List ℕ → List ℕ → List ℕ
+lentWithPanel held words lent = words ++ drop (length (wordsOf lent held panel)) lent
+
+unfoldable pub lentWithCounts : List ℕ → List ℕ → List ℕ
+lentWithCounts words lent = let r = registerOf counts in copyAfter words (r .room) lent (r .from) (r .room)
+
+unfoldable pub heldWithCounts : Held → List ℕ → List ℕ → Held
+heldWithCounts held words lent = let r = registerOf counts in heldWith held r (copied words (r .room) lent (r .from) (r .room))
+
+-- "Each call with counts leaves all 64 words in it": all for which a `lent` of so many words has room
+unfoldable pub heldOfCounts : Held → ℕ → Held
+heldOfCounts held size = heldWith held (registerOf counts) (min 64 (size - 110000))

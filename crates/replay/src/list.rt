@@ -209,8 +209,9 @@ fn numbers_before(command: u64) -> usize {
     match command {
         names::FONT | names::CU | names::PANEL | names::OUT | names::FILE => 0,
         names::KEEP1 | names::FLIP1 | names::KEEP2 | names::FLIP2 => 0,
+        names::COUNTS => 0,
         names::MEASURE => 1,
-        names::PAINT => 7,
+        names::PAINT | names::PAINTLIT => 7,
         names::GATHER => 8,
         _ => 1000,
     }

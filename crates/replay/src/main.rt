@@ -1,5 +1,6 @@
 // Answers a written list of calls, read on standard input, as docs/REPLAY.md says.
 mod convert_calls;
+mod count_calls;
 mod font_calls;
 mod label_calls;
 mod list;
@@ -66,7 +67,7 @@ fn perform(
     let at = sheet_calls::answer_join(line, values, State { held, at }, keeps, flips, text);
     let at = sheet_calls::answer_gather(line, font, label, State { held, at }, keeps, flips, text);
     let at = sheet_calls::answer(line, State { held, at }, lent, keeps, flips, text);
-    State { held, at }
+    count_calls::answer(line, font, label, held, lent, keeps, flips, text, at)
 }
 
 // Writes out what has been put into the text.

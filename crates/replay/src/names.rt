@@ -15,6 +15,9 @@ pub const OUT: u64 = 15_21_20;
 
 pub const FILE: u64 = 06_09_12_05;
 
+// counts
+pub const COUNTS: u64 = 03_15_21_14_20_19;
+
 // keep1, flip1, keep2, flip2
 pub const KEEP1: u64 = 11_05_05_16_49;
 
@@ -49,6 +52,13 @@ pub const GATHER: u64 = 07_01_20_08_05_18;
 pub const JOIN: u64 = 10_15_09_14;
 
 pub const APPLY: u64 = 01_16_16_12_25;
+
+// paintlit, applylit, clear
+pub const PAINTLIT: u64 = 16_01_09_14_20_12_09_20;
+
+pub const APPLYLIT: u64 = 01_16_16_12_25_12_09_20;
+
+pub const CLEAR: u64 = 03_12_05_01_18;
 
 // convert, written
 pub const CONVERT: u64 = 03_15_14_22_05_18_20;

@@ -1,6 +1,7 @@
 // The registers share arrays, each from a place of its own and with room for the most that it may hold: `font` and `cu` stand in `files`,
-// `panel` and `out` in `lent`, `keep1` and `keep2` in `keeps`, `flip1` and `flip2` in `flips`, and the bytes of `file` by themselves.
-// No call but `join` is lent two registers of one array. Behind the registers in `files` stand the words that the last conversion wrote.
+// `panel`, `out` and `counts` in `lent`, `keep1` and `keep2` in `keeps`, `flip1` and `flip2` in `flips`, and the bytes of `file` by
+// themselves. No call but `join` is lent two registers of one array: where the panel is lent, the counts are handed by value. Behind the
+// registers in `files` stand the words that the last conversion wrote.
 use crate::list::Line;
 use crate::list::VALUES;
 use crate::names;
@@ -10,12 +11,15 @@ use crate::text::put_list;
 use crate::text::put_name;
 ghost use mathlib.Core.Path.{_≡_};
 ghost use Prim.Native.Nat.{_%_};
+ghost use lib.ListN.{length};
 ghost use Rattle.words.specs.Lent.{given, after};
 ghost use Rattle.replay.specs.Text.{Puts, listBytes};
 ghost use Rattle.replay.specs.Answers.{widenAfter, shownBytes, registerBytes, valuesSpread, showAnswer, valuesShown};
 ghost use Rattle.replay.specs.Registers.{register, registerOf, nothingHeld, heldBy, heldWith, heldWritten, wordsOf};
 ghost use Rattle.replay.specs.Registers.{copied, copyAfter, narrowed, narrowAfter, atEntry, atExit, heldAfter, arraysAfter};
 ghost use Rattle.replay.specs.Registers.{keptAfter, filesKept, heldFromWritten, valuesFromWritten, filesFromWritten};
+ghost use Rattle.replay.specs.Registers.{heldWithCounts, lentWithCounts};
+ghost use Rattle.replay.specs.Names.{panel};
 
 pub const FILES: usize = 670_000;
 
@@ -24,7 +28,7 @@ const WRITTEN: usize = 600_000;
 
 const MOST_WRITTEN: usize = 70_000;
 
-pub const LENT: usize = 110_000;
+pub const LENT: usize = 110_064;
 
 pub const SHEETS: usize = 80_000;
 
@@ -52,7 +56,7 @@ struct Register {
 
 // How many words each register holds, of `file` bytes; and how many the last conversion wrote.
 pub struct Held {
-    counts: [usize; 9],
+    counts: [usize; 10],
     written: usize,
 }
 
@@ -81,7 +85,8 @@ impl Register {
             names::FLIP1 => Register::new(Array::Flips, 0, SLICE, 6),
             names::FLIP2 => Register::new(Array::Flips, SLICE, SLICE, 7),
             names::FILE => Register::new(Array::Bytes, 0, BYTES, 8),
-            _ => Register::new(Array::Nowhere, 0, 0, 9),
+            names::COUNTS => Register::new(Array::Lent, 110_000, 64, 9),
+            _ => Register::new(Array::Nowhere, 0, 0, 10),
         }
     }
 }
@@ -91,7 +96,7 @@ impl Held {
         ensures { λ r. ⌜ r ≡ nothingHeld ⌝ }
     {
         Held {
-            counts: [0; 9],
+            counts: [0; 10],
             written: 0,
         }
     }
@@ -100,7 +105,7 @@ impl Held {
         ensures { λ r. ⌜ r ≡ heldBy self register ⌝ }
     {
         let number = register.number;
-        if number < 9 {
+        if number < 10 {
             return self.counts[number];
         }
         0
@@ -110,7 +115,7 @@ impl Held {
         ensures { λ r. ⌜ r ≡ heldWith self register count ⌝ }
     {
         let number = register.number;
-        if number < 9 {
+        if number < 10 {
             self.counts[number] = count;
         }
         self
@@ -314,4 +319,20 @@ pub fn font_from_written(held: Held, values: &mut [u16; VALUES], files: &mut [u1
     let count = copy(kept, MOST_WRITTEN, values, 0, MOST_WRITTEN);
     let font = Register::named(names::FONT);
     held.with(font, copy(values, count, files, font.from, font.room))
+}
+
+// Where the words of the panel end in `lent`, which they stand first in.
+pub fn panel_end(held: Held, lent: &[u16]) -> usize
+    ensures { λ r. ⌜ r ≡ length (wordsOf (given lent) held panel) ⌝ }
+{
+    held_words(lent, held, names::PANEL).len()
+}
+
+// Makes these words the register `counts`.
+pub fn keep_counts(held: Held, words: &[u16], lent: &mut [u16]) -> Held
+    ensures { λ r. ⌜ r ≡ heldWithCounts held (given words) (given lent) ⌝ }
+    ensures lent { λ r. ⌜ after lent ≡ lentWithCounts (given words) (given lent) ⌝ }
+{
+    let r = Register::named(names::COUNTS);
+    held.with(r, copy(words, r.room, lent, r.from, r.room))
 }

@@ -24,7 +24,7 @@ ghost use Rattle.replay.specs.Answers.{refusalBytes, gatherAnswer, sheet
 ghost use Rattle.replay.specs.Answers.{joinSpread, joinRefusal, joinAnswer, joinValues};
 
 // The whole answer of a call that answers the number alone.
-fn put_refusal(text: &mut [u8; TEXT], at: usize, line: Line, number: u32) -> usize
+pub fn put_refusal(text: &mut [u8; TEXT], at: usize, line: Line, number: u32) -> usize
     ensures { λ r. ⌜ Puts text at (refusalBytes (line .command) number) r ⌝ }
 {
     let at = put_name(text, at, line.command);

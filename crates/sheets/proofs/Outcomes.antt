@@ -7,6 +7,7 @@ use borrow.Fn.Kinds.{Dens, resT, endedOf}
 use Rattle.sheets.proofs.fresh as fresh
 use Rattle.sheets.proofs.join as join
 use Rattle.sheets.proofs.apply as apply
+use Rattle.sheets.proofs.clear as clear
 use Rattle.sheets.proofs.gather as gather
 
 pub fresh-one : (κs : Lfts 2) (a : Dens κs fresh.Kinds.ps) (r o : resT fresh.Kinds.r κs .Denot)
@@ -26,6 +27,12 @@ pub apply-one : (κs : Lfts 3) (a : Dens κs apply.Kinds.ps) (r o : resT apply.K
     → apply.Reads.Post κs a r e → apply.Reads.Post κs a o e′
     → (r ≡ o) × (now (e .1 .1 .1 .0) ≡ now (e′ .1 .1 .1 .0))
 apply-one κs a r o e e′ p q = (p .0 ∙ sym (q .0), p .1 ∙ sym (q .1))
+
+pub clear-one : (κs : Lfts 1) (a : Dens κs clear.Kinds.ps) (r o : resT clear.Kinds.r κs .Denot)
+    (e e′ : AtExit (endedOf 1 clear.Kinds.ps clear.Kinds.r) κs)
+    → clear.Reads.Post κs a r e → clear.Reads.Post κs a o e′
+    → (r ≡ o) × (now (e .1 .0) ≡ now (e′ .1 .0))
+clear-one κs a r o e e′ p q = (p .0 ∙ sym (q .0), p .1 ∙ sym (q .1))
 
 pub gather-one : (κs : Lfts 4) (a : Dens κs gather.Kinds.ps) (r o : resT gather.Kinds.r κs .Denot)
     (e e′ : AtExit (endedOf 4 gather.Kinds.ps gather.Kinds.r) κs)

@@ -5,6 +5,7 @@ use mathlib.Core.List.{List, [], _∷_}
 use lib.Dec.{eqb}
 use lib.ListN.{length, take}
 use mathlib.Core.Path.{_≡_}
+use Rattle.words.specs.Word.{over}
 use Rattle.words.specs.Effect.{identity, altered}
 use Rattle.paint.specs.declared.Shape.{Shape}
 use Rattle.paint.specs.declared.Reply.{Reply}
@@ -37,6 +38,13 @@ applyNumber s sheet panel = panelNumber s (length (sheet .keep) ∷ length (shee
 unfoldable pub applyAfter : Shape → Sheet → List ℕ → List ℕ
 applyAfter s sheet panel =
     cond (eqb (applyNumber s sheet panel) 0) (altered 0 (panelWords s) (effectAt sheet) panel) panel
+
+-- P2: "clearing a panel (its first R × H words become 0", refused by 8 as far as the panel goes. Its counts stand in `counts: Lit`.
+unfoldable pub clearNumber : Shape → List ℕ → ℕ
+clearNumber s panel = panelNumber s (length panel ∷ [])
+
+unfoldable pub clearAfter : Shape → List ℕ → List ℕ
+clearAfter s panel = cond (eqb (clearNumber s panel) 0) (over (panelWords s) (λ i. 0) panel) panel
 
 -- "Gathering a label joins its effect onto the sheet and replies as painting does."
 unfoldable pub gatherReply : Shape → Call → Sheet → Reply

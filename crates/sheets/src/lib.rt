@@ -14,7 +14,7 @@ ghost use Rattle.paint.specs.Panel.{panelWords};
 ghost use Rattle.paint.specs.Sheet.{sheetOf, lengthsOf, effectAt};
 ghost use Rattle.paint.specs.Label.{callOf, TellsCall};
 ghost use Rattle.sheets.specs.Sheet.{freshNumber, freshAfter, joinNumber, joinOnto, joinAfter};
-ghost use Rattle.sheets.specs.Sheet.{applyNumber, applyAfter, gatherReply, gatherAfter};
+ghost use Rattle.sheets.specs.Sheet.{applyNumber, applyAfter, clearNumber, clearAfter, gatherReply, gatherAfter};
 
 // The first n words become this one.
 fn fill(list: &mut [u16], n: usize, word: u16)
@@ -66,6 +66,18 @@ pub fn apply(s: Shape, keep: &[u16], flip: &[u16], panel: &mut [u16]) -> u32
         return 8;
     }
     apply_words(keep, flip, s.panel_words(), panel);
+    0
+}
+
+// Clears a panel.
+pub fn clear(s: Shape, panel: &mut [u16]) -> u32
+    ensures { λ r. ⌜ r ≡ clearNumber s (given panel) ⌝ }
+    ensures panel { λ r. ⌜ after panel ≡ clearAfter s (given panel) ⌝ }
+{
+    if paint::bad_panel(s, panel.len()) {
+        return 8;
+    }
+    fill(panel, s.panel_words(), 0);
     0
 }
 

@@ -36,10 +36,15 @@ pub fn any_font(random: &mut Random, number: usize) -> MadeFont {
 
 pub fn good_font(random: &mut Random) -> MadeFont {
     if random.one_in(4) {
-        overlapping_parts(random).made()
+        overlapping_font(random)
     } else {
         good_parts(random).made()
     }
+}
+
+/// A kerned font whose characters lie over one another.
+pub fn overlapping_font(random: &mut Random) -> MadeFont {
+    overlapping_parts(random).made()
 }
 
 /// A plain font whose dummy has no columns.

@@ -12,6 +12,8 @@ const LINE_LIMIT: usize = 1_000;
 const FONT_LIMIT: usize = 65_536;
 
 pub struct PreviewInput {
+    /// Whether the counts are asked for.
+    pub counts: bool,
     /// None for a file that is not there.
     pub font: Option<Vec<u8>>,
     pub shape: Shape,
@@ -44,6 +46,7 @@ pub fn preview_input(random: &mut Random, number: usize, fonts: &[Vec<u8>]) -> P
         _ => Some(bytes_from_words(&made.words)),
     };
     PreviewInput {
+        counts: number % 3 != 0,
         font,
         shape,
         lines: lines(random, good, &made),

@@ -42,6 +42,10 @@ impl Scene {
         self.line(format!("paint {}", call_text(call)));
     }
 
+    pub fn paint_lit(&mut self, call: &Call) {
+        self.line(format!("paintlit {}", call_text(call)));
+    }
+
     pub fn gather(&mut self, sheet: usize, call: &Call) {
         self.line(format!("gather {sheet} {}", call_text(call)));
     }
@@ -52,6 +56,14 @@ impl Scene {
 
     pub fn apply(&mut self, sheet: usize, shape: Shape) {
         self.line(format!("apply {sheet} {}", shape_text(shape)));
+    }
+
+    pub fn apply_lit(&mut self, sheet: usize, shape: Shape) {
+        self.line(format!("applylit {sheet} {}", shape_text(shape)));
+    }
+
+    pub fn clear(&mut self, shape: Shape) {
+        self.line(format!("clear {}", shape_text(shape)));
     }
 
     pub fn join(&mut self, shape: Shape) {

@@ -43,6 +43,7 @@ fn every_refusal_appears_and_no_other() {
         (Kind::Fonts, 800),
         (Kind::Labels, 2_000),
         (Kind::Sheets, 600),
+        (Kind::Counts, 1_000),
         (Kind::Cu, 1_200),
     ];
     let answers: String = counts
@@ -50,14 +51,17 @@ fn every_refusal_appears_and_no_other() {
         .map(|&(kind, count)| answers_to(&generated(kind, 1, count)).unwrap())
         .collect();
     let coverage = Coverage::of(answers.as_bytes()).unwrap();
-    let expected: [(&str, &[u32]); 11] = [
+    let expected: [(&str, &[u32]); 14] = [
         ("check", &[0, 1, 2, 3, 4, 5, 6, 7]),
         ("measure", &[0, 1, 2, 3, 4, 5, 6, 7, 10, 11]),
         ("paint", &[0, 1, 2, 3, 4, 5, 6, 7, 8, 9, 10, 11, 12]),
+        ("paintlit", &OF_PAINTING_LIT),
         ("gather", &[0, 1, 2, 3, 4, 5, 6, 7, 8, 9, 10, 11, 12]),
         ("fresh", &[0, 8]),
         ("join", &[0, 8]),
         ("apply", &[0, 8]),
+        ("applylit", &[0, 8, 30]),
+        ("clear", &[0, 8, 30]),
         // No offset is over 255, for a raster has at most 256 columns.
         ("convert", &[0, 20, 21, 22, 23, 24, 26, 27]),
         ("program", &[0, 14, 20, 21, 22, 23, 24, 26, 27]),
@@ -66,6 +70,21 @@ fn every_refusal_appears_and_no_other() {
     ];
     for (kind, numbers) in expected {
         assert_eq!(coverage.numbers(kind), numbers, "{kind}");
+    }
+}
+
+const OF_PAINTING_LIT: [u32; 14] = [0, 1, 2, 3, 4, 5, 6, 7, 8, 9, 10, 11, 12, 30];
+
+#[test]
+fn every_refusal_of_calls_with_counts_appears_and_no_other() {
+    let answers = answers_to(&generated(Kind::Counts, 1980, 1_000)).unwrap();
+    let coverage = Coverage::of(answers.as_bytes()).unwrap();
+    assert_eq!(coverage.numbers("paintlit"), OF_PAINTING_LIT);
+    assert_eq!(coverage.numbers("applylit"), [0, 8, 30]);
+    assert_eq!(coverage.numbers("clear"), [0, 8, 30]);
+    let of_sheets = ["paintlit", "applylit", "clear", "gather", "fresh"];
+    for name in KINDS.iter().filter(|name| !of_sheets.contains(name)) {
+        assert!(coverage.numbers(name).is_empty(), "{name}");
     }
 }
 

@@ -31,6 +31,16 @@ fn an_answer_without_words_ends_behind_its_name() {
 }
 
 #[test]
+fn a_call_with_counts_leaves_all_their_words() {
+    let list = "show counts\ncounts 0000 0001 0002\nclear 2 1 1\nshow counts\n\
+                panel 0000*2\ncounts\nclear 2 1 1\nshow counts\n";
+    assert_eq!(
+        answers_to(list).unwrap(),
+        "counts\nclear 8\ncounts 0000 0001 0002 0000*61\nclear 0\ncounts 0000*64\n"
+    );
+}
+
+#[test]
 fn the_written_words_outlive_the_output() {
     let list = "cu 0001 0001 0041 0003 8000\nout 0000*19\nconvert\nout\nwritten\nshow font\n\
                 convert\nwritten\nshow font\n";
@@ -66,6 +76,12 @@ fn lists_that_break_the_rules() {
         "file 0000\n",
         "fresh 3 1 1 1\n",
         "show sheet\n",
+        "paintlit 8 3\n",
+        "applylit 3 1 1 1\n",
+        "clear 1 1\n",
+        "clear 1 1 1 1\n",
+        "counts 0000*65\n",
+        "counts 0\n",
         "check\r\n",
         "font \u{e9}\n",
         "check",
@@ -87,8 +103,11 @@ fn the_greatest_numbers_are_answered() {
                 paint 4294967295 4294967295 4294967295 4294967295 2147483647 -2147483648 4294967295\n\
                 fresh 1 4294967295 4294967295 4294967295\n\
                 join 4294967295 4294967295 4294967295\n\
-                apply 2 4294967295 4294967295 4294967295\n";
+                apply 2 4294967295 4294967295 4294967295\n\
+                paintlit 4294967295 4294967295 4294967295 4294967295 2147483647 -2147483648 4294967295\n\
+                applylit 2 4294967295 4294967295 4294967295\n\
+                clear 4294967295 4294967295 4294967295\n";
     let answers = "glyph 0 1 0 1 1 1 1\ndots 0 0000\nrow\nmeasure 10 0 0\npaint 8 0 0\n\
-                   fresh 8\njoin 8\napply 8\n";
+                   fresh 8\njoin 8\napply 8\npaintlit 8 0 0\napplylit 8\nclear 8\n";
     assert_eq!(answers_to(list).unwrap(), answers);
 }

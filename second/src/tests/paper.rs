@@ -15,7 +15,8 @@ const CU: [u16; 17] = [
     0x0044, 0x0002, 0x0000, 0x0000, 0x0000,
 ];
 
-const FONT: [u16; 27] = [
+/// The small font, of C1.
+pub(super) const FONT: [u16; 27] = [
     0x9000, 0x0041, 0x0044, 0x0004, 0xFFFF, 0xFFFF, 0x0004, 0x0003, //
     0x000E, 0x0002, 0x0001, 0x0000, 0x0001, //
     0x4F00, 0xBF00, 0x1F00, //
@@ -23,7 +24,8 @@ const FONT: [u16; 27] = [
     0x0104, 0x0000, 0xFFFF, 0x0102, 0x0004,
 ];
 
-const SHAPE: Shape = Shape {
+/// The small panel: a strip has 12 dots.
+pub(super) const SHAPE: Shape = Shape {
     words_per_row: 8,
     rows: 3,
     strip_width: 4,

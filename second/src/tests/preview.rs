@@ -5,7 +5,7 @@ use std::collections::BTreeSet;
 use crate::bits::bytes_from_words;
 use crate::generate::preview_inputs;
 use crate::panel::Shape;
-use crate::preview::{arguments, preview, Written, HELP};
+use crate::preview::{arguments, preview, Arguments, Written, HELP, USAGE};
 use crate::refusal::MESSAGES;
 
 const C1: [u16; 27] = [
@@ -199,7 +199,23 @@ fn fonts_and_shapes_come_before_the_lines() {
 
 #[test]
 fn what_the_arguments_are() {
-    assert_eq!(arguments(&["f", "8", "3", "4"]), Some(("f", SHAPE)));
+    let meant = |counts, font| {
+        Some(Arguments {
+            counts,
+            font,
+            shape: SHAPE,
+        })
+    };
+    assert_eq!(arguments(&["f", "8", "3", "4"]), meant(false, "f"));
+    assert_eq!(
+        arguments(&["--counts", "f", "8", "3", "4"]),
+        meant(true, "f")
+    );
+    for name in ["--help", "--counts"] {
+        assert_eq!(arguments(&[name, "8", "3", "4"]), meant(false, name));
+        let with_counts = ["--counts", name, "8", "3", "4"];
+        assert_eq!(arguments(&with_counts), meant(true, name));
+    }
     for bad in [
         &["f", "8", "3"] as &[&str],
         &["f", "8", "3", "4", "5"],
@@ -207,20 +223,91 @@ fn what_the_arguments_are() {
         &["f", "8", "", "4"],
         &["f", "4294967296", "3", "4"],
         &["--help", "--help"],
+        &[],
+        &["--counts"],
+        &["--counts", "--help"],
+        &["--counts", "f", "8", "3"],
+        &["--counts", "f", "8", "3", ""],
+        &["--counts", "f", "8", "3", "4", "5"],
+        &["--counts", "--counts", "f", "8", "3", "4"],
+        &["--count", "f", "8", "3", "4"],
+        &["f", "--counts", "8", "3", "4"],
+        &["f", "8", "3", "4", "--counts"],
     ] {
-        assert_eq!(arguments(bad), None);
+        assert_eq!(arguments(bad), None, "{bad:?}");
     }
+}
+
+/// The lines of a panel whose strips have no lit dot but for these.
+fn lit(strips: &[(usize, u32)]) -> String {
+    let count = |strip| {
+        let found = strips.iter().find(|given| given.0 == strip);
+        found.map_or(0, |given| given.1)
+    };
+    (0..32)
+        .map(|strip| format!("strip {strip}: {} lit\n", count(strip)))
+        .collect()
+}
+
+#[test]
+fn the_lit_dots_of_each_strip_are_told() {
+    assert_eq!(answer(b"").counts_text(), lit(&[]));
+    assert_eq!(answer(b"31 1 2 0 BA\n").counts_text(), lit(&[(31, 5)]));
+    let lines = b"31 1 2 0 BA\n31 1 2 0 C\n0 1 2 0 C\n0 1 2 1 B\n1 1 2 2 BB\n32 1 2 0 C\n2";
+    assert_eq!(answer(lines).counts_text(), lit(&[(31, 12), (0, 10)]));
+}
+
+#[test]
+fn without_a_picture_no_dots_are_told() {
+    let written = preview(None, SHAPE, b"31 1 2 0 BA\n");
     assert_eq!(
-        arguments(&["--help", "8", "3", "4"]),
-        Some(("--help", SHAPE))
+        (written.counts, written.counts_text()),
+        (None, String::new())
     );
+}
+
+/// The lit dots of a strip, of the bytes of a picture.
+fn lit_in_picture(picture: &[u8], shape: Shape, strip: usize) -> usize {
+    let row_bytes = 2 * shape.words_per_row as usize;
+    let rows = &picture[picture.len() - row_bytes * shape.rows as usize..];
+    let width = shape.strip_width as usize;
+    rows.chunks(row_bytes)
+        .map(|row| {
+            let text: String = row.iter().map(|byte| format!("{byte:08b}")).collect();
+            text[strip * width..(strip + 1) * width]
+                .matches('1')
+                .count()
+        })
+        .sum()
+}
+
+#[test]
+fn what_is_told_are_the_dots_of_the_picture() {
+    let fonts = [bytes_from_words(&C1)];
+    let (mut with_flag, mut told) = (BTreeSet::new(), 0);
+    for input in preview_inputs(1980, 240, &fonts) {
+        let written = preview(input.font.as_deref(), input.shape, &input.lines);
+        with_flag.insert((input.counts, written.picture.is_empty()));
+        assert_eq!(written.counts.is_none(), written.picture.is_empty());
+        for (strip, &count) in written.counts.iter().flatten().enumerate() {
+            let lit = lit_in_picture(&written.picture, input.shape, strip);
+            assert_eq!(count as usize, lit);
+            told += usize::from(input.counts && count > 0);
+        }
+    }
+    assert_eq!(with_flag.len(), 4);
+    assert!(told > 200, "{told}");
 }
 
 #[test]
 fn the_help_begins_as_the_usage_and_has_short_lines() {
-    assert!(HELP.starts_with("usage: preview FONT R H W < LINES > PICTURE\n\n"));
-    assert!(HELP.ends_with("painted all the same.\n"));
-    assert_eq!(HELP.lines().count(), 14);
+    let usage = USAGE.trim_end();
+    assert!(HELP.starts_with(&format!("{usage} < LINES > PICTURE\n\n")));
+    assert!(HELP.ends_with(
+        "painted all the same.\n\
+         With --counts the lit dots of each strip are told on standard error, one line a strip.\n"
+    ));
+    assert_eq!(HELP.lines().count(), 15);
     assert!(HELP.lines().all(|line| line.len() <= 140));
 }
 

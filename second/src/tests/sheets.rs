@@ -14,9 +14,9 @@ use crate::sheet::{apply, fresh, gather, join, Sheet};
 type Reply = Result<Pen, Refused>;
 
 #[derive(Debug, PartialEq, Eq)]
-struct OwnSheet {
-    keep: Vec<u16>,
-    flip: Vec<u16>,
+pub struct OwnSheet {
+    pub keep: Vec<u16>,
+    pub flip: Vec<u16>,
 }
 
 impl OwnSheet {
@@ -29,20 +29,20 @@ impl OwnSheet {
 }
 
 /// Calls in mixed modes and fonts, for one shape; some of them are refused.
-struct Round {
-    shape: Shape,
-    calls: Vec<FontCall>,
+pub struct Round {
+    pub shape: Shape,
+    pub calls: Vec<FontCall>,
 }
 
 impl Round {
-    fn random(random: &mut Random) -> Round {
+    pub fn random(random: &mut Random) -> Round {
         let shape = small_shape(random);
         let font = Rc::new(good_font(random));
         let calls = random_calls(random, shape, font);
         Round { shape, calls }
     }
 
-    fn gathered(&self, calls: &[FontCall]) -> (OwnSheet, Vec<Reply>) {
+    pub fn gathered(&self, calls: &[FontCall]) -> (OwnSheet, Vec<Reply>) {
         let mut sheet = OwnSheet {
             keep: vec![0x1111; self.shape.words()],
             flip: vec![0x2222; self.shape.words()],

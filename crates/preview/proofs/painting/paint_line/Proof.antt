@@ -1,9 +1,10 @@
--- `preview::painting::paint_line` paints the label of a line, and nothing for any other.
+-- `preview::painting::paint_line` paints the label of a line, with the counts, and for any other leaves both as they are.
 use Prim.Native.Nat.{ℕ}
 use mathlib.Core.Path.{sym, _∙_}
 use mathlib.Core.List.{List}
 use denote.Ref.{now}
 use Rattle.paint.specs.declared.Shape.{Shape}
+use Rattle.preview.specs.Line.{Dots, counted}
 use Rattle.preview.proofs.Lines.{passed-line, other-line, label-line}
 use borrow.Author.Needs.{needs}
 use Rattle.preview.proofs.painting.paint_line.Statement.{statement}
@@ -20,8 +21,8 @@ module _ (read : tie.After-line-of) where
   abbrev line : List ℕ
   line = now (called .args .line)
 
-  abbrev panel : List ℕ
-  panel = now (called .args .panel)
+  abbrev dots : Dots
+  dots = counted (now (called .args .panel)) (called .args .counts)
 
   abbrev s : Shape
   s = called .args .s
@@ -59,27 +60,28 @@ say-reply-requires c κs = search needs
 returns : tie.Need-returns
 returns c =
     let read = c .before .before in
-    passed-line (font read) (line read) (panel read) (s read) (sym (c .enum-told .given .1) ∙ read .line-of .ensures)
+    passed-line (font read) (line read) (s read) (dots read) (sym (c .enum-told .given .1) ∙ read .line-of .ensures)
 
 returns-2 : tie.Need-returns-2
 returns-2 c =
     let told = c .before .before .before in
     let read = told .before .before in
-    other-line (font read) (line read) (panel read) (s read) (sym (told .enum-told2 .given .1) ∙ read .line-of .ensures)
+    other-line (font read) (line read) (s read) (dots read) (sym (told .enum-told2 .given .1) ∙ read .line-of .ensures)
 
 same-length : tie.Need-same-length
 same-length c = search needs
 
 returns-3 : tie.Need-returns-3
 returns-3 c =
-    let paint = c .before .before .before in
+    let paint = c .before .before .before .before in
     let text = paint .before .before in
     let known = text .before .before in
     let read = known .before .before in
-    label-line (font read) (line read) (panel read) (s read) (known .read .given .0 .0) (now (text .text-of .result)) _
+    label-line (font read) (line read) (s read) (dots read) (known .read .given .0 .0) (now (text .text-of .result)) _ _
     (sym (known .read .given .1) ∙ read .line-of .ensures)
     (text .text-of .ensures)
     (paint .paint .ensures .1 .0)
+    (paint .paint .ensures .0)
 
 pub paint-line-spec : {M : Type 1} → statement M
 paint-line-spec =

@@ -1,4 +1,5 @@
 -- `preview::painting::take_byte` meets its contract: a newline paints the line, and any other byte is kept of it.
+use mathlib.Core.Path.{refl}
 use denote.Ref.{now}
 use Rattle.preview.proofs.Taking.{newline-taken, other-taken}
 use borrow.Author.Needs.{needs}
@@ -22,8 +23,8 @@ returns c =
     let painted = c .before .before .before in
     let so-far = painted .before .before in
     let newline = so-far .before .before in
-    let a = newline .before .before .before .args in
-    newline-taken (now (a .font)) (a .s) (a .b) (a .before) (now (a .line)) (now (a .panel)) (c .next .result)
+    let a = newline .before .before .before .before .before .args in
+    newline-taken (now (a .font)) (a .s) (a .b) (a .before) (now (a .line)) (now (a .panel)) _
     (newline .if1 .taken)
     (now (so-far .line-so-far .result))
     _
@@ -40,11 +41,12 @@ longer-requires c κs = search needs
 returns-2 : tie.Need-returns-2
 returns-2 c =
     let other = c .before .before .before in
-    let a = other .before .before .before .args in
-    other-taken (now (a .font)) (a .s) (a .b) (a .before) (now (a .line)) (now (a .panel)) (c .longer .result)
+    let a = other .before .before .before .before .before .args in
+    other-taken (now (a .font)) (a .s) (a .b) (a .before) (now (a .line)) (now (a .panel)) _
     (other .if1 .left)
     _
     (c .longer .ensures)
+    refl
     (c .before .put .ensures)
 
 pub take-byte-spec : {M : Type 1} → statement M

@@ -10,11 +10,11 @@ use Rattle.preview.proofs.painting.take_bytes.Statement.{statement}
 use Rattle.preview.proofs.painting.take_bytes.Tie as tie
 
 abbrev Inv-loop : tie.InvT-loop
-Inv-loop bytes line₀ font s panel₀ lines₀ i₀ line panel lines i =
-    (i ≤ length bytes) × (length panel ≡ length panel₀) × Left font s bytes lines₀ line₀ panel₀ i lines line panel
+Inv-loop bytes line₀ font s panel₀ before i₀ line panel so-far i =
+    (i ≤ length bytes) × (length panel ≡ length panel₀) × Left font s bytes before line₀ panel₀ i so-far line panel
 
 abbrev μ-loop : tie.MeasureT-loop
-μ-loop bytes line₀ font s panel₀ lines₀ i₀ line panel lines i = length bytes - i
+μ-loop bytes line₀ font s panel₀ before i₀ line panel so-far i = length bytes - i
 
 loop-holds : tie.Need-loop-holds Inv-loop μ-loop
 loop-holds c = (search needs, search needs, all-left _ _ _ _ _ _ (c .before .before .before .pre))

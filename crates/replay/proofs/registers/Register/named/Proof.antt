@@ -1,7 +1,7 @@
 -- `replay::registers::Register::named` finds the register in the table.
 use mathlib.Core.Path.{sym, ap, _∙_}
 use borrow.Author.Tests.{ne-eqb}
-use Rattle.replay.specs.Names.{font, cu, panel, out, keep1, keep2, flip1, flip2, file}
+use Rattle.replay.specs.Names.{font, cu, panel, out, keep1, keep2, flip1, flip2, file, counts}
 use Rattle.replay.specs.Registers.{registerOf}
 use borrow.Author.Needs.{needs}
 use Rattle.replay.proofs.registers.Register.named.Statement.{statement}
@@ -36,6 +36,9 @@ new-requires-9 c κs = search needs
 
 new-requires-10 : tie.Need-new-requires-10
 new-requires-10 c κs = search needs
+
+new-requires-11 : tie.Need-new-requires-11
+new-requires-11 c κs = search needs
 
 returns : tie.Need-returns
 unfolding registerOf
@@ -75,20 +78,25 @@ returns-9 c = c .new9 .ensures ∙ sym (ap registerOf (c .before .match .keys9))
 
 returns-10 : tie.Need-returns-10
 unfolding registerOf
-returns-10 c =
+returns-10 c = c .new10 .ensures ∙ sym (ap registerOf (c .before .match .keys10))
+
+returns-11 : tie.Need-returns-11
+unfolding registerOf
+returns-11 c =
     let name = c .before .before .args .name in
     let other = c .before .match .rest in
     rw (
-      ne-eqb name font (other .0 .0 .0 .0 .0 .0 .0 .0 .1),
-      ne-eqb name cu (other .0 .0 .0 .0 .0 .0 .0 .1),
-      ne-eqb name panel (other .0 .0 .0 .0 .0 .0 .1),
-      ne-eqb name out (other .0 .0 .0 .0 .0 .1),
-      ne-eqb name keep1 (other .0 .0 .0 .0 .1),
-      ne-eqb name keep2 (other .0 .0 .0 .1),
-      ne-eqb name flip1 (other .0 .0 .1),
-      ne-eqb name flip2 (other .0 .1),
-      ne-eqb name file (other .1),
-    ) (c .new10 .ensures)
+      ne-eqb name font (other .0 .0 .0 .0 .0 .0 .0 .0 .0 .1),
+      ne-eqb name cu (other .0 .0 .0 .0 .0 .0 .0 .0 .1),
+      ne-eqb name panel (other .0 .0 .0 .0 .0 .0 .0 .1),
+      ne-eqb name out (other .0 .0 .0 .0 .0 .0 .1),
+      ne-eqb name keep1 (other .0 .0 .0 .0 .0 .1),
+      ne-eqb name keep2 (other .0 .0 .0 .0 .1),
+      ne-eqb name flip1 (other .0 .0 .0 .1),
+      ne-eqb name flip2 (other .0 .0 .1),
+      ne-eqb name file (other .0 .1),
+      ne-eqb name counts (other .1),
+    ) (c .new11 .ensures)
 
 pub named-spec : {M : Type 1} → statement M
 named-spec =
@@ -104,6 +112,7 @@ named-spec =
     new-requires-8
     new-requires-9
     new-requires-10
+    new-requires-11
     returns
     returns-2
     returns-3
@@ -113,4 +122,5 @@ named-spec =
     returns-7
     returns-8
     returns-9
-    returns-10)
+    returns-10
+    returns-11)
