@@ -14,7 +14,7 @@
 #include <stdlib.h>
 #include <string.h>
 
-enum { FONT = 65536, PANEL = 32768, CU = 65536, OUT = 65536 };
+enum { FONT = 131072, PANEL = 32768, CU = 65536, OUT = 65536 };
 
 /* Everything that a call is handed, and its reply: all of it is compared. What calls write stands first. */
 static struct state {
@@ -73,22 +73,47 @@ static void small_font(void)
     spell_font();
 }
 
+/* What a font is made of, part behind part. Each answers the word behind what it has put there. */
+
+static uint16_t *put_words(uint16_t *next, const uint16_t *words, size_t count)
+{
+    memcpy(next, words, 2 * count);
+    return next + count;
+}
+
+static uint16_t *put_often(uint16_t *next, uint16_t word, size_t times)
+{
+    while (times-- > 0)
+        *next++ = word;
+    return next;
+}
+
+/* A body of so many pictures, each of so many columns, dots at random. */
+static uint16_t *put_body(uint16_t *next, unsigned raster, unsigned height, unsigned ascent, unsigned pictures, unsigned columns)
+{
+    unsigned bitmap = raster * height;
+    next = put_words(next, (const uint16_t[]){bitmap + pictures + 6, ascent, height - ascent, 0, raster}, 5);
+    fill(next, bitmap);
+    next += bitmap;
+    for (unsigned k = 0; k <= pictures; k++)
+        *next++ = (uint16_t)(k * columns);
+    return next;
+}
+
+static void end_font(const uint16_t *end)
+{
+    s.font_words = (size_t)(end - s.font);
+    spell_font();
+}
+
 /* A kerned font of so many codes, each with a picture of so many columns, dots at random, moved right by one dot and set two columns
    further. */
 static void kerned_font(unsigned min, unsigned codes, unsigned raster, unsigned height, unsigned ascent, unsigned columns)
 {
-    unsigned bitmap = raster * height;
-    const uint16_t header[13] = {0x9000, min, min + codes - 1, columns + 1, 0, ascent - height, columns, height, bitmap + codes + 7,
-                                 ascent, height - ascent, 0, raster};
-    memcpy(s.font, header, sizeof header);
-    uint16_t *pointers = s.font + 13 + bitmap, *widths = pointers + codes + 2;
-    fill(s.font + 13, bitmap);
-    for (unsigned k = 0; k < codes + 2; k++)
-        pointers[k] = (uint16_t)(k * columns);
-    for (unsigned k = 0; k < codes + 1; k++)
-        widths[k] = (uint16_t)(256 + columns + 1);
-    s.font_words = bitmap + 2 * codes + 16;
-    spell_font();
+    const uint16_t front[8] = {0x9000, min, min + codes - 1, columns + 1, 0, ascent - height, columns, height};
+    uint16_t *next = put_words(s.font, front, 8);
+    next = put_body(next, raster, height, ascent, codes + 1, columns);
+    end_font(put_often(next, (uint16_t)(256 + columns + 1), codes + 1));
 }
 
 /* 64 KB. */
@@ -101,6 +126,41 @@ static void large_font(void)
 static void label_font(void)
 {
     kerned_font(32, 95, 42, 12, 9, 7);
+}
+
+/* The word that holds a dot of the body that begins here. */
+static uint16_t *word_of(uint16_t *body, unsigned row, unsigned column)
+{
+    return body + 5 + row * body[4] + column / 16;
+}
+
+/* The pictures of the label font dealt out in turn to so many bodies, as a font with an index: picture k is number k / bodies of body
+   k % bodies. Of more bodies than pictures the last are not named. */
+static void label_index(bool kerned, unsigned bodies)
+{
+    static uint16_t whole[FONT];
+    enum { PICTURES = 96, ROWS = 12, ASCENT = 9, COLUMNS = 7 };
+    label_font();
+    memcpy(whole, s.font, sizeof whole);
+    unsigned each = (PICTURES + bodies - 1) / bodies, raster = (each * COLUMNS + 15) / 16;
+    uint16_t *next = put_words(s.font, whole, kerned ? 8 : 4), *starts[128];
+    s.font[0] = kerned ? 0xD000 : 0xC000;
+    next = put_words(next, (const uint16_t[]){ASCENT, ROWS - ASCENT, bodies}, 3);
+    for (unsigned k = 0; k < PICTURES; k++)
+        *next++ = (uint16_t)(k % bodies << 8 | k / bodies);
+    for (unsigned k = 0; k < bodies; k++) {
+        starts[k] = next;
+        next = put_body(next, raster, ROWS, ASCENT, each, COLUMNS);
+        memset(starts[k] + 5, 0, 2 * raster * ROWS);
+    }
+    for (unsigned k = 0; k < PICTURES; k++)
+        for (unsigned row = 0; row < ROWS; row++)
+            for (unsigned column = 0; column < COLUMNS; column++) {
+                unsigned from = k * COLUMNS + column, to = k / bodies * COLUMNS + column;
+                if (*word_of(whole + 8, row, from) & 0x8000 >> from % 16)
+                    *word_of(starts[k % bodies], row, to) |= 0x8000 >> to % 16;
+            }
+    end_font(kerned ? put_often(next, 256 + COLUMNS + 1, PICTURES) : next);
 }
 
 /* The same with 20 columns a picture: no row of it is within one word. */
@@ -239,7 +299,11 @@ static void set_large_font(unsigned n) { (void)n, large_font(); }
 static void set_codes(unsigned n) { kerned_font(0, n, 130, 12, 9, 8), text(8), memset(s.text, 0, 8); }
 static void set_words(unsigned n) { s.font_words = n, fill(s.font, n), spell_font(); }
 static void set_bitmap_rows(unsigned n) { kerned_font(32, 95, 42, n, n, 7); }
-static void set_label(unsigned n) { label_font(), shape(128, 16, 64), text(n), at(31, 0, 11, 0); }
+static void set_strip(unsigned n) { shape(128, 16, 64), text(n), at(31, 0, 11, 0); }
+static void set_label(unsigned n) { label_font(), set_strip(n); }
+static void set_index(unsigned n) { label_index(true, 4), set_strip(n); }
+static void set_bodies(unsigned n) { label_index(true, 128), set_strip(n); }
+static void set_plain_index(unsigned n) { label_index(false, 4), set_strip(n); }
 static void set_erased(unsigned n) { set_label(n), at(31, 0, 11, 1); }
 static void set_inverted(unsigned n) { set_label(n), at(31, 0, 11, 2); }
 static void set_left_edge(unsigned n) { set_label(n), at(31, -37, 11, 0); }
@@ -291,9 +355,13 @@ static const struct one {
     {"check-c1", "check: the font of C1, 27 words", CHECK, set_small_font, {27}},
     {"check-64k", "check: a kerned font of 256 codes, 32,768 words", CHECK, set_large_font, {32768}},
     {"check-label", "check: the font of the labels below, 95 codes, 710 words", CHECK, set_label, {1}},
+    {"check-index", "check: the same in a kerned index of 4 bodies, 851 words", CHECK, set_index, {1}},
+    {"check-bodies", "check: the same in a kerned index of 128 bodies, 2,635 words", CHECK, set_bodies, {1}},
     {"measure-8", "measure: 8 bytes", MEASURE, set_label, {8}},
     {"measure-64", "measure: 64 bytes", MEASURE, set_label, {64}},
     {"measure-64k", "measure: 8 bytes, the font of 32,768 words", MEASURE, set_large_label, {8}},
+    {"measure-index", "measure: 8 bytes, a kerned index of 4 bodies", MEASURE, set_index, {8}},
+    {"measure-plain", "measure: 8 bytes, a plain index of 4 bodies", MEASURE, set_plain_index, {8}},
     {"words-64k", "words: 65,536 bytes", WORDS, set_words, {32768}},
     {"paint-8", "paint: 8 bytes, all inside the strip", PAINT, set_label, {8}},
     {"paint-erase", "paint: 8 bytes, Erase", PAINT, set_erased, {8}},
@@ -306,9 +374,15 @@ static const struct one {
     {"paint-outside-left", "paint: 8 bytes, all left of the strip", PAINT, set_left, {8}},
     {"paint-outside-right", "paint: 8 bytes, all right of the strip", PAINT, set_right, {8}},
     {"paint-top", "paint: 8 bytes, 7 of 12 rows above the panel", PAINT, set_top_edge, {8}},
+    {"paint-index", "paint: 8 bytes, a kerned index of 4 bodies", PAINT, set_index, {8}},
+    {"paint-bodies", "paint: 8 bytes, a kerned index of 128 bodies", PAINT, set_bodies, {8}},
+    {"paint-plain", "paint: 8 bytes, a plain index of 4 bodies", PAINT, set_plain_index, {8}},
+    {"paint-index-64", "paint: 64 bytes, 8 of them inside, a kerned index of 4 bodies", PAINT, set_index, {64}},
+    {"paint-bodies-64", "paint: 64 bytes, 8 of them inside, a kerned index of 128 bodies", PAINT, set_bodies, {64}},
     {"gather-paint", "gather: 8 bytes, Paint", GATHER, set_label, {8}},
     {"gather-erase", "gather: 8 bytes, Erase", GATHER, set_erased, {8}},
     {"gather-invert", "gather: 8 bytes, Invert", GATHER, set_inverted, {8}},
+    {"gather-index", "gather: 8 bytes, Paint, a kerned index of 4 bodies", GATHER, set_index, {8}},
     {"gather-wide", "gather: 2 bytes of 20 columns", GATHER, set_wide, {2}},
     {"gather-poster", "gather: 1 byte of 60 columns and 64 rows", GATHER, set_poster, {1}},
     {"fresh-24", "fresh: R = 8, H = 3", FRESH, set_panel, {24}},
@@ -360,6 +434,40 @@ static void set_up(const struct one *c, unsigned size)
     s.reply = (pailradish_reply){0, 0, 0};
 }
 
+/* The parts of the font that stands there. */
+
+static bool font_kerned(void) { return s.font[0] & 0x1000; }
+static bool font_index(void) { return s.font[0] & 0x4000; }
+static unsigned font_codes(void) { return s.font[2] - s.font[1] + 1; }
+static unsigned font_bodies(void) { return font_index() ? s.font[font_kerned() ? 10 : 6] : 1; }
+
+static uint16_t *body_at(unsigned k)
+{
+    uint16_t *body = s.font + (font_kerned() ? 8 : 4) + (font_index() ? 3 + font_codes() + 1 : 0);
+    while (k-- > 0)
+        body += body[0];
+    return body;
+}
+
+static uint16_t *font_map(void) { return s.font + (font_kerned() ? 11 : 7); }
+static uint16_t *font_widths(void) { return s.font + s.font_words - font_codes() - 1; }
+
+static uint16_t *pointers_of(uint16_t *body) { return body + 5 + body[4] * (body[1] + body[2]); }
+
+/* The place of what is shown for a code, from the first code's. */
+static unsigned shown(unsigned code)
+{
+    unsigned k = code - s.font[1], dummy = font_codes();
+    if (code < s.font[1] || code > s.font[2])
+        return dummy;
+    if (font_kerned() && font_widths()[k] == 0xFFFF)
+        return dummy;
+    if (font_index())
+        return font_map()[k] & 0x8000 ? dummy : k;
+    const uint16_t *pointers = pointers_of(body_at(0));
+    return !font_kerned() && pointers[k] == pointers[k + 1] ? dummy : k;
+}
+
 /* The trips over the bus that a drawing call cannot do without: each character reads and writes each word that its picture reaches inside
    strip and panel. Painting also counts the lit dots of the strip in the rows that a picture of the font may reach, once before and once
    after. It is made as simply as can be, and takes nothing from what is measured. */
@@ -388,23 +496,25 @@ struct trips {
 
 static struct trips least_trips(int export)
 {
-    bool kerned = s.font[0] & 0x1000;
-    const uint16_t *body = s.font + (kerned ? 8 : 4), min = s.font[1], max = s.font[2];
-    int rows = body[1] + body[2], top = s.call.label.y - body[1], pen = s.call.label.x;
-    const uint16_t *pointers = body + 5 + body[4] * rows, *widths = pointers + (max - min + 1) + 2;
+    int pen = s.call.label.x, y = s.call.label.y, above = 0, below = 0;
     unsigned long count = 0;
     for (size_t i = 0; i < s.text_bytes; i++) {
-        int k = s.text[i] < min || s.text[i] > max ? max - min + 1 : s.text[i] - min;
-        if (kerned ? widths[k] == 0xFFFF : pointers[k] == pointers[k + 1])
-            k = max - min + 1;
-        int columns = pointers[k + 1] - pointers[k];
-        count += words_reached(kerned ? pen + (int16_t)s.font[4] + widths[k] / 256 : pen, columns, top, rows);
-        pen += kerned ? widths[k] % 256 : columns;
+        unsigned k = shown(s.text[i]), name = font_index() ? font_map()[k] : k;
+        uint16_t *body = body_at(font_index() ? name / 256 : 0), *pointers = pointers_of(body) + (font_index() ? name % 256 : name);
+        int columns = pointers[1] - pointers[0];
+        int left = font_kerned() ? pen + (int16_t)s.font[4] + font_widths()[k] / 256 : pen;
+        count += words_reached(left, columns, y - body[1], body[1] + body[2]);
+        pen += font_kerned() ? font_widths()[k] % 256 : columns;
     }
     if (export == GATHER && s.call.label.mode != PAILRADISH_INVERT)
         count *= 2;
+    for (unsigned k = 0; k < font_bodies(); k++) {
+        const uint16_t *body = body_at(k);
+        above = body[1] > above ? body[1] : above;
+        below = body[2] > below ? body[2] : below;
+    }
     /* In the rows that are reached the whole strip is read: it is one picture of all its columns. */
-    unsigned long counted = export == PAINT ? 2 * words_reached(0, (int)s.call.shape.width, top, rows) : 0;
+    unsigned long counted = export == PAINT ? 2 * words_reached(0, (int)s.call.shape.width, y - above, above + below) : 0;
     return (struct trips){count + counted, count};
 }
 
@@ -474,14 +584,22 @@ static void compare(const char *what, unsigned size, int export, bool accepted, 
     }
 }
 
-static void any_font(void)
+/* So many width entries; that of the dummy, the last, is never that of an absent code. */
+static uint16_t *put_any_widths(uint16_t *next, unsigned count)
+{
+    for (unsigned k = 0; k < count; k++)
+        *next++ = within(0, 3) == 0 && k + 1 < count ? 0xFFFF : (uint16_t)(within(0, 40) << 8 | within(0, within(0, 3) ? 30 : 254));
+    return next;
+}
+
+/* Without an index. */
+static void any_strike(void)
 {
     unsigned codes = within(1, 40), height = within(1, 20), columns = within(0, 20);
     kerned_font(within(0, 256 - codes), codes, (columns * (codes + 1) + 15) / 16 + within(1, 2), height, within(0, height), columns);
     uint16_t *widths = s.font + s.font_words - codes - 1;
     s.font[4] = (uint16_t)(within(0, 510) - 255);
-    for (unsigned k = 0; k <= codes; k++)
-        widths[k] = within(0, 3) == 0 && k < codes ? 0xFFFF : (uint16_t)(within(0, 40) << 8 | within(0, within(0, 3) ? 30 : 254));
+    put_any_widths(widths, codes + 1);
     if (within(0, 2) == 0) {
         /* The plain font with the same pictures; now and then a picture takes its neighbour's columns, and the dummy has none. */
         uint16_t *pointers = widths - codes - 2;
@@ -495,6 +613,54 @@ static void any_font(void)
             s.font[s.font_words - 1] = s.font[s.font_words - 2];
     }
     spell_font();
+}
+
+/* Of a body's pictures now and then one takes its neighbour's columns. */
+static uint16_t *put_any_body(uint16_t *next, unsigned pictures, bool large)
+{
+    unsigned height = large ? within(100, 256) : within(1, 20), columns = within(0, 20);
+    unsigned raster = (columns * pictures + 15) / 16 + (large ? within(50, 150) : within(1, 2));
+    uint16_t *end = put_body(next, raster, height, within(0, height), pictures, columns), *pointers = end - pictures - 1;
+    for (unsigned k = 1; k < pictures; k++)
+        if (within(0, 3) == 0)
+            pointers[k] = pointers[k - 1];
+    return end;
+}
+
+/* With an index: several codes may share a picture, and what is absent may name none. Where there are few bodies, now and then the first
+   two are so large that the others begin far behind them, or one has more pictures than a map entry can name. */
+static void any_index(void)
+{
+    bool kerned = within(0, 1);
+    unsigned codes = within(1, 40), bodies = within(1, within(0, 3) ? 6 : 128), min = within(0, 256 - codes), pictures[128];
+    const uint16_t front[8] = {kerned ? 0xD000 : 0xC000, min, min + codes - 1, any(), within(0, 510) - 255, any(), any(), any()};
+    uint16_t *next = put_words(s.font, front, kerned ? 8 : 4);
+    next = put_words(next, (const uint16_t[]){any(), any(), bodies}, 3);
+    uint16_t *map = next;
+    next += codes + 1;
+    bool few = bodies <= 6, large = few && within(0, 3) == 0;
+    for (unsigned k = 0; k < bodies; k++) {
+        bool large_one = large && k < 2;
+        pictures[k] = within(1, few && !large_one && within(0, 3) == 0 ? 300 : 8);
+        next = put_any_body(next, pictures[k], large_one);
+    }
+    uint16_t *widths = next;
+    if (kerned)
+        next = put_any_widths(next, codes + 1);
+    for (unsigned k = 0; k <= codes; k++) {
+        unsigned body = within(0, bodies - 1), most = pictures[body] < 256 ? pictures[body] - 1 : 255;
+        map[k] = (uint16_t)(body << 8 | within(within(0, 3) ? 0 : most, most));
+        if (k < codes && within(0, 4) == 0)
+            map[k] = (uint16_t)(any() | 0x8000);
+        else if (kerned && widths[k] == 0xFFFF && within(0, 1))
+            map[k] = (uint16_t)any();
+    }
+    end_font(next);
+}
+
+static void any_font(void)
+{
+    within(0, 1) ? any_index() : any_strike();
 }
 
 static void any_panel(void)
@@ -524,45 +690,86 @@ static void any_cu(void)
     }
 }
 
-/* A word of a font, of its header every other time, and what it may be damaged to: a number at a limit, or any. */
+static uint16_t *any_body(void)
+{
+    return body_at(within(0, font_bodies() - 1));
+}
+
+/* A word of a font, and what it may be damaged to: a number at a limit, its neighbour, or any. Mostly it is one that is tested: of a font's
+   first words, of the map, of the head of some body, its last pointer, or a width entry. */
 static uint16_t *any_font_word(void)
 {
-    return s.font + within(0, (uint32_t)(within(0, 1) ? s.font_words : 13) - 1);
+    uint16_t *body;
+    switch (within(0, font_index() ? 9 : 1)) {
+    case 0: return s.font + within(0, 12);
+    case 1: case 2: case 3: return s.font + within(0, (uint32_t)s.font_words - 1);
+    case 4: return s.font + (font_kerned() ? 10 : 6);
+    case 5: return font_map() + within(0, font_codes());
+    case 6: return font_map() + font_codes();
+    case 7: return any_body() + within(0, 4);
+    case 8: body = any_body(); return body + body[0] - 1;
+    default: return font_widths() + within(0, font_codes());
+    }
 }
 
-static uint16_t any_damage(void)
+static uint16_t any_damage(uint16_t was)
 {
-    static const uint16_t edges[] = {0,      1,      254,    255,    256,    257,    4096,  4097,
-                                     0x8000, 0x9000, 0xA000, 0xC000, 0xFF00, 0xFF01, 0xFFFF};
-    return within(0, 3) ? edges[within(0, sizeof edges / sizeof *edges - 1)] : (uint16_t)any();
+    static const uint16_t edges[] = {0,      1,      127,    128,    129,    254,    255,    256,    257,   4096,
+                                     4097,   0x8000, 0x9000, 0xA000, 0xC000, 0xD000, 0xFF00, 0xFF01, 0xFFFF};
+    switch (within(0, 4)) {
+    case 0: return (uint16_t)any();
+    case 1: return (uint16_t)(was + 1);
+    case 2: return (uint16_t)(was - 1);
+    default: return edges[within(0, sizeof edges / sizeof *edges - 1)];
+    }
 }
 
-/* How many words of it are handed over: up to two more than it has, or hardly a header. */
+/* What says that the dummy is there: its width entry, its map entry, or in a plain font without an index nothing. */
+static uint16_t *any_dummy_word(void)
+{
+    return font_index() && (!font_kerned() || within(0, 1)) ? font_map() + font_codes() : s.font + s.font_words - 1;
+}
+
+/* How many words of it are handed over: up to two more than it has, hardly a header, or hardly more than up to some body's head. */
 static size_t any_font_end(void)
 {
-    return within(0, within(0, 1) ? (uint32_t)s.font_words + 2 : 14);
+    switch (within(0, 3)) {
+    case 0: return (size_t)(any_body() - s.font) + within(0, 6) - 1;
+    case 1: return within(0, 14);
+    case 2: return s.font_words + within(0, 3) - 1;
+    default: return within(0, (uint32_t)s.font_words + 2);
+    }
 }
 
-/* A font that may be refused: the check alone says why. */
+/* A font that may be refused: the check alone says why. Some have two words that are damaged, and some are damaged and cut, since one
+   refusal comes before the other. */
 static void damaged_fonts(unsigned i)
 {
     for (unsigned k = 0; k < 8; k++) {
-        uint16_t *word = any_font_word(), was = *word;
-        *word = any_damage();
+        uint16_t *word = any_font_word(), *other = k % 2 ? any_font_word() : word, was = *word, other_was = *other;
+        size_t whole = s.font_words, end = any_font_end();
+        *word = any_damage(was);
+        *other = any_damage(other_was);
         spell_font();
         compare("damaged font", i, CHECK, false, false);
-        *word = was;
-        size_t whole = s.font_words;
-        s.font_words = any_font_end();
+        if (k % 4 < 2) {
+            *word = was;
+            *other = other_was;
+            spell_font();
+        }
+        s.font_words = end;
         compare("font cut short", i, CHECK, false, false);
         s.font_words = whole;
+        *word = was;
+        *other = other_was;
     }
+    spell_font();
 }
 
 /* What may be wrong with a call on a panel or a sheet: for each test a value on either side of its limit, or one far away. Some values are
    accepted. */
 enum {
-    FONT_WORD, FONT_DUMMY, FONT_END, ROW_WORDS, ROWS, WIDTH, PANEL_END, FLIP_END, STRIP, PLACE_X, PLACE_Y, TEXT_END, MODE, COUNTS, FLAWS
+    FONT_DUMMY, FONT_WORD, FONT_END, ROW_WORDS, ROWS, WIDTH, PANEL_END, FLIP_END, STRIP, PLACE_X, PLACE_Y, TEXT_END, MODE, COUNTS, FLAWS
 };
 
 static uint32_t one_of(const uint32_t *values, uint32_t count)
@@ -590,15 +797,16 @@ static uint32_t any_untrue_count(uint32_t lit)
     return ONE_OF(0, 1, lit - 1, lit + 1, lit / 2, most - lit, most - 1, most, most + 1, 0x80000000, 0xFFFFFFFF);
 }
 
-static void spoil(int flaw)
+/* `word` is one of the font's, and `end` how many of them are handed over: they are chosen while the font is whole. */
+static void spoil(int flaw, uint16_t *word, size_t end)
 {
     pailradish_shape *shape = &s.call.shape;
     pailradish_label *label = &s.call.label;
     uint32_t half = shape->row_words / 2, *count = any_count();
     switch (flaw) {
-    case FONT_WORD: *any_font_word() = any_damage(); break;
-    case FONT_DUMMY: s.font[s.font_words - 1] = 0xFFFF; break;
-    case FONT_END: s.font_words = any_font_end(); break;
+    case FONT_DUMMY: *any_dummy_word() = 0xFFFF; break;
+    case FONT_WORD: *word = any_damage(*word); break;
+    case FONT_END: s.font_words = end; break;
     case ROW_WORDS: shape->row_words = ONE_OF(0, 1, 2 * shape->width - 1, 128, 129, 0x80000000, 0xFFFFFFFF); break;
     case ROWS: shape->rows = ONE_OF(0, 256, 257, 0x80000000, 0xFFFFFFFF); break;
     case WIDTH: shape->width = ONE_OF(0, half, half + 1, 64, 65, 0x80000000, 0x80000001, 0xFFFFFFFF); break;
@@ -639,14 +847,16 @@ enum { ONE_FLAW, OWN_COUNT, SOME_FLAWS, WAYS };
 
 static void spoil_call(unsigned way, unsigned i)
 {
+    uint16_t *word = any_font_word();
+    size_t end = any_font_end();
     if (way == ONE_FLAW)
-        spoil((int)(i % FLAWS));
+        spoil((int)(i % FLAWS), word, end);
     else if (way == OWN_COUNT)
         spoil_own_count();
     else
         for (int flaw = 0; flaw < FLAWS; flaw++)
             if (within(0, 2) == 0)
-                spoil(flaw);
+                spoil(flaw, word, end);
 }
 
 /* Calls that may be refused. */
@@ -677,10 +887,10 @@ static void any_text(void)
 /* Mostly such that the pictures come near the strip, wherever FBBox has them, and that some of their rows are on the panel. */
 static void any_place(void)
 {
-    bool kerned = s.font[0] & 0x1000, near = within(0, 3);
-    const uint16_t *body = s.font + (kerned ? 8 : 4);
+    bool near = within(0, 3);
+    const uint16_t *body = any_body();
     uint32_t height = body[1] + body[2];
-    int32_t x = (int32_t)within(0, 60) - 50 - (kerned ? (int16_t)s.font[4] : 0);
+    int32_t x = (int32_t)within(0, 60) - 50 - (font_kerned() ? (int16_t)s.font[4] : 0);
     int32_t y = (int32_t)within(1, s.call.shape.rows + height - 1) - (int32_t)height + body[1];
     if (!near) {
         x = (int32_t)within(0, 120) - 60;
@@ -704,7 +914,8 @@ static void random_calls(unsigned count)
             compare("random call", i, label_calls[k], true, false);
         }
         s.conversion.number = 99;
-        compare("random words", i, WORDS, true, false);
+        if (s.font_words <= OUT)
+            compare("random words", i, WORDS, true, false);
         s.conversion.number = 99;
         any_cu();
         compare("random convert", i, CONVERT, true, false);
@@ -726,11 +937,10 @@ static void check_all(void)
         }
     set_up(cases, 27);
     random_calls(500);
-    for (unsigned number = PAILRADISH_FONT_SHORT; number <= PAILRADISH_MODE_RANGE; number++)
-        if (refused[number] == 0)
-            fail("refusal", number, "nobody", "gives it");
-    if (refused[PAILRADISH_COUNT_RANGE] == 0)
-        fail("refusal", PAILRADISH_COUNT_RANGE, "nobody", "gives it");
+    static const unsigned numbers[] = {1, 2, 3, 4, 5, 6, 7, 8, 9, 10, 11, 12, 15, 16, PAILRADISH_COUNT_RANGE};
+    for (unsigned k = 0; k < sizeof numbers / sizeof *numbers; k++)
+        if (refused[numbers[k]] == 0)
+            fail("refusal", numbers[k], "nobody", "gives it");
     printf("%lu calls compared, all equal\n", compared);
 }
 

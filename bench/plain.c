@@ -4,16 +4,44 @@
 #include "font.h"
 #include "plain.h"
 
+APART uint32_t check_index(const uint8_t *font, size_t words)
+{
+    survey v;
+    return index_number(by_bytes, disorder_by_bytes, font, words, &v);
+}
+
 uint32_t plain_check(const uint8_t *font, size_t font_bytes)
 {
     if (font_bytes % 2)
         return 14;
-    return font_number(by_bytes, disorder_by_bytes, font, font_bytes / 2);
+    if (has_index(by_bytes, font, font_bytes / 2))
+        return check_index(font, font_bytes / 2);
+    return strike_number(by_bytes, disorder_by_bytes, font, font_bytes / 2);
+}
+
+/* Where there are width entries no body is looked at. */
+APART pailradish_reply measure_index(const uint8_t *font, size_t font_bytes, int32_t x, const uint8_t *text, size_t text_bytes)
+{
+    uint32_t starts[MOST_BODIES];
+    face f = index_of(by_bytes, font, font_bytes / 2);
+    if (!f.kerned)
+        walk(by_bytes, font, &f, starts);
+    pailradish_reply reply = {0, x, 0};
+    for (size_t i = 0; i < text_bytes; i++) {
+        unsigned k = mapped_place(by_bytes, font, &f, text[i]);
+        if (f.kerned)
+            reply.pen += (int32_t)(by_bytes(font, f.widths + k) & 0xFF);
+        else
+            reply.pen += (int32_t)mapped_glyph(by_bytes, font, &f, starts, k).columns;
+        reply.substitutes += k == f.codes;
+    }
+    return reply;
 }
 
 pailradish_reply plain_measure(const uint8_t *font, size_t font_bytes, int32_t x, const uint8_t *text, size_t text_bytes)
 {
-    (void)font_bytes;
+    if (by_bytes(font, 0) & INDEX)
+        return measure_index(font, font_bytes, x, text, text_bytes);
     face f = face_of(by_bytes, font);
     pailradish_reply reply = {0, x, 0};
     for (size_t i = 0; i < text_bytes; i++) {
@@ -32,31 +60,53 @@ pailradish_conversion plain_words(const uint8_t *bytes, size_t byte_count, uint1
     return (pailradish_conversion){0, byte_count / 2};
 }
 
-/* Draws a label dot by dot: on a panel, where there is no keep and the count of the strip goes along, or on the keep and the flip of a
-   sheet. */
-ALWAYS pailradish_reply draw(const uint16_t *font, pailradish_call call, const uint8_t *text, size_t text_bytes, uint16_t *keep,
-                             uint16_t *flip, uint32_t *lit)
+/* The rows of a picture that are on the panel, and the row of the panel where its first one is or would be. */
+typedef struct {
+    int top, first, end;
+} span;
+
+ALWAYS span span_of(const face *f, const pailradish_call *call)
 {
-    face f = face_of(by_words, font);
-    pailradish_shape shape = call.shape;
-    uint32_t mode = call.label.mode;
-    pailradish_reply reply = {0, call.label.x, 0};
-    int top = call.label.y - (int)f.ascent;
-    int first_row = top < 0 ? -top : 0;
-    int end_row = top + (int)f.height > (int)shape.rows ? (int)shape.rows - top : (int)f.height;
+    span r;
+    int rows = (int)call->shape.rows;
+    r.top = call->label.y - (int)f->ascent;
+    r.first = r.top < 0 ? -r.top : 0;
+    r.end = r.top + (int)f->height > rows ? rows - r.top : (int)f->height;
+    return r;
+}
+
+/* Draws a label dot by dot: on a panel, where there is no keep and the count of the strip goes along, or on the keep and the flip of a
+   sheet. In a font without an index all pictures have the same rows. Whether there is an index is a constant in each copy that the compiler
+   makes of this. */
+ALWAYS pailradish_reply draw(bool index, const uint16_t *font, size_t font_words, const pailradish_call *call, const uint8_t *text,
+                             size_t text_bytes, uint16_t *keep, uint16_t *flip, uint32_t *lit)
+{
+    uint32_t starts[MOST_BODIES];
+    face f = index ? index_of(by_words, font, font_words) : face_of(by_words, font);
+    if (index)
+        walk(by_words, font, &f, starts);
+    span r = span_of(&f, call);
+    pailradish_shape shape = call->shape;
+    uint32_t mode = call->label.mode;
+    pailradish_reply reply = {0, call->label.x, 0};
     for (size_t i = 0; i < text_bytes; i++) {
-        glyph g = glyph_of(by_words, font, &f, text[i]);
+        glyph g;
+        if (index) {
+            g = mapped_glyph(by_words, font, &f, starts, mapped_place(by_words, font, &f, text[i]));
+            r = span_of(&f, call);
+        } else
+            g = glyph_of(by_words, font, &f, text[i]);
         int left = reply.pen + f.fbbox + (int)g.offset;
         int first_column = left < 0 ? -left : 0;
         int end_column = left + (int)g.columns > (int)shape.width ? (int)shape.width - left : (int)g.columns;
-        for (int row = first_row; row < end_row; row++) {
+        for (int row = r.first; row < r.end; row++) {
             const uint16_t *from = font + f.bitmap + (size_t)row * f.raster;
-            size_t to = (size_t)(top + row) * shape.row_words;
+            size_t to = (size_t)(r.top + row) * shape.row_words;
             for (int column = first_column; column < end_column; column++) {
                 unsigned at = g.first + (unsigned)column;
                 if (!(from[at / 16] >> (15 - at % 16) & 1))
                     continue;
-                unsigned dot = call.label.strip * shape.width + (unsigned)(left + column);
+                unsigned dot = call->label.strip * shape.width + (unsigned)(left + column);
                 uint16_t bit = 0x8000 >> dot % 16;
                 bool was = flip[to + dot / 16] & bit;
                 if (mode == PAILRADISH_PAINT)
@@ -77,21 +127,43 @@ ALWAYS pailradish_reply draw(const uint16_t *font, pailradish_call call, const u
     return reply;
 }
 
+APART pailradish_reply paint_index(const uint16_t *font, size_t font_words, const pailradish_call *call, const uint8_t *text,
+                                   size_t text_bytes, uint16_t *panel, uint32_t *lit)
+{
+    uint32_t own = *lit;
+    pailradish_reply reply = draw(true, font, font_words, call, text, text_bytes, NULL, panel, &own);
+    *lit = own;
+    return reply;
+}
+
+APART pailradish_reply gather_index(const uint16_t *font, size_t font_words, const pailradish_call *call, const uint8_t *text,
+                                    size_t text_bytes, uint16_t *keep, uint16_t *flip)
+{
+    return draw(true, font, font_words, call, text, text_bytes, keep, flip, NULL);
+}
+
 pailradish_painted plain_paint(const uint16_t *font, size_t font_words, pailradish_call call, const uint8_t *text, size_t text_bytes,
                                uint16_t *panel, size_t panel_words, pailradish_counts counts)
 {
-    (void)font_words, (void)panel_words;
-    uint32_t lit = counts.lit[call.label.strip];
-    pailradish_reply reply = draw(font, call, text, text_bytes, NULL, panel, &lit);
-    counts.lit[call.label.strip] = lit;
+    (void)panel_words;
+    pailradish_reply reply;
+    if (font[0] & INDEX)
+        reply = paint_index(font, font_words, &call, text, text_bytes, panel, &counts.lit[call.label.strip]);
+    else {
+        uint32_t lit = counts.lit[call.label.strip];
+        reply = draw(false, font, font_words, &call, text, text_bytes, NULL, panel, &lit);
+        counts.lit[call.label.strip] = lit;
+    }
     return (pailradish_painted){reply, counts};
 }
 
 pailradish_reply plain_gather(const uint16_t *font, size_t font_words, pailradish_call call, const uint8_t *text, size_t text_bytes,
                               uint16_t *keep, size_t keep_words, uint16_t *flip, size_t flip_words)
 {
-    (void)font_words, (void)keep_words, (void)flip_words;
-    return draw(font, call, text, text_bytes, keep, flip, NULL);
+    (void)keep_words, (void)flip_words;
+    if (font[0] & INDEX)
+        return gather_index(font, font_words, &call, text, text_bytes, keep, flip);
+    return draw(false, font, font_words, &call, text, text_bytes, keep, flip, NULL);
 }
 
 uint32_t plain_fresh(pailradish_shape shape, uint16_t *keep, size_t keep_words, uint16_t *flip, size_t flip_words)

@@ -14,10 +14,10 @@ typedef struct {
     uint32_t lit;
 } canvas;
 
-/* What all characters of a label share: how many rows of a picture are on the panel, the columns of the strip there, and for the first of
-   these rows the word in front of the bitmap's and the first of the panel's. */
+/* What all characters of a label share, or in a font with an index those of one body: how many rows of a picture are on the panel, and for
+   the first of these the word in front of the bitmap's and the first of the panel's. */
 typedef struct {
-    int rows, strip, strip_end;
+    int rows;
     size_t source, target;
 } frame;
 
@@ -28,17 +28,14 @@ typedef struct {
     unsigned more, turn, first_mask, last_mask;
 } piece;
 
-/* Where no row is on the panel the strip has no columns either. Then every character is outside it, and whoever draws has a row. */
-ALWAYS frame frame_of(const face *f, pailradish_call call)
+ALWAYS frame frame_of(const face *f, const pailradish_call *call)
 {
-    int top = call.label.y - (int)f->ascent, bottom = top + (int)f->height, rows = (int)call.shape.rows;
+    int top = call->label.y - (int)f->ascent, bottom = top + (int)f->height, rows = (int)call->shape.rows;
     int first = top < 0 ? 0 : top;
     frame r;
     r.rows = (bottom > rows ? rows : bottom) - first;
-    r.strip = (int)(call.label.strip * call.shape.width);
-    r.strip_end = r.strip + (r.rows > 0 ? (int)call.shape.width : 0);
     r.source = f->bitmap - 1 + (size_t)(first - top) * f->raster;
-    r.target = (size_t)first * call.shape.row_words;
+    r.target = (size_t)first * call->shape.row_words;
     return r;
 }
 
@@ -120,22 +117,34 @@ ALWAYS void draw_wide(canvas *c, const uint16_t *font, size_t raster, piece p, i
     } while (--rows);
 }
 
-/* The pen is kept where a picture with offset 0 begins, in columns of the panel. */
-ALWAYS pailradish_reply draw_on(canvas c, const uint16_t *font, pailradish_call call, const uint8_t *text, size_t text_bytes,
-                                uint32_t *lit)
+/* The pen is kept where a picture with offset 0 begins, in columns of the panel. In a font without an index all pictures have the same
+   rows: where none of these is on the panel the strip has no columns either, and every character is outside it. Whether there is an index
+   is a constant in every copy, too. */
+ALWAYS pailradish_reply draw_on(canvas c, bool index, const uint16_t *font, size_t font_words, const uint32_t *starts,
+                                const pailradish_call *call, const uint8_t *text, size_t text_bytes, uint32_t *lit)
 {
-    face f = face_of(by_words, font);
+    face f = index ? index_of(by_words, font, font_words) : face_of(by_words, font);
     frame r = frame_of(&f, call);
-    int pen = r.strip + f.fbbox + call.label.x;
+    int strip = (int)(call->label.strip * call->shape.width);
+    int strip_end = strip + (index || r.rows > 0 ? (int)call->shape.width : 0);
+    int pen = strip + f.fbbox + call->label.x;
     uint32_t substitutes = 0;
     for (size_t i = 0; i < text_bytes; i++) {
-        glyph g = glyph_of(by_words, font, &f, text[i]);
+        glyph g;
+        if (index)
+            g = mapped_glyph(by_words, font, &f, starts, mapped_place(by_words, font, &f, text[i]));
+        else
+            g = glyph_of(by_words, font, &f, text[i]);
         int left = pen + (int)g.offset, end = left + (int)g.columns;
-        int from = left < r.strip ? r.strip : left;
-        end = end > r.strip_end ? r.strip_end : end;
+        int from = left < strip ? strip : left;
+        end = end > strip_end ? strip_end : end;
         pen += (int)g.advance;
         substitutes += g.substitute;
         if (from >= end)
+            continue;
+        if (index)
+            r = frame_of(&f, call);
+        if (index && r.rows <= 0)
             continue;
         piece p = piece_of(&r, g.first, left, (unsigned)from, (unsigned)end - 1);
         if (p.more == 0)
@@ -144,34 +153,77 @@ ALWAYS pailradish_reply draw_on(canvas c, const uint16_t *font, pailradish_call 
             draw_wide(&c, font, f.raster, p, r.rows);
     }
     *lit += c.lit;
-    return (pailradish_reply){0, pen - f.fbbox - r.strip, substitutes};
+    return (pailradish_reply){0, pen - f.fbbox - strip, substitutes};
 }
 
-ALWAYS pailradish_reply draw(const uint16_t *font, pailradish_call call, const uint8_t *text, size_t text_bytes, uint16_t *keep,
-                             uint16_t *flip, uint32_t *lit)
+ALWAYS pailradish_reply draw(bool index, const uint16_t *font, size_t font_words, const uint32_t *starts, const pailradish_call *call,
+                             const uint8_t *text, size_t text_bytes, uint16_t *keep, uint16_t *flip, uint32_t *lit)
 {
-    size_t row_words = call.shape.row_words;
-    switch (call.label.mode) {
-    case PAILRADISH_PAINT: return draw_on((canvas){PAILRADISH_PAINT, keep, flip, row_words, 0}, font, call, text, text_bytes, lit);
-    case PAILRADISH_ERASE: return draw_on((canvas){PAILRADISH_ERASE, keep, flip, row_words, 0}, font, call, text, text_bytes, lit);
-    default: return draw_on((canvas){PAILRADISH_INVERT, keep, flip, row_words, 0}, font, call, text, text_bytes, lit);
+    size_t row_words = call->shape.row_words;
+    canvas paint = {PAILRADISH_PAINT, keep, flip, row_words, 0};
+    canvas erase = {PAILRADISH_ERASE, keep, flip, row_words, 0};
+    canvas invert = {PAILRADISH_INVERT, keep, flip, row_words, 0};
+    switch (call->label.mode) {
+    case PAILRADISH_PAINT: return draw_on(paint, index, font, font_words, starts, call, text, text_bytes, lit);
+    case PAILRADISH_ERASE: return draw_on(erase, index, font, font_words, starts, call, text, text_bytes, lit);
+    default: return draw_on(invert, index, font, font_words, starts, call, text, text_bytes, lit);
     }
+}
+
+/* With an index, where it is known where the bodies begin. */
+APART pailradish_reply paint_mapped(const uint16_t *font, size_t font_words, const uint32_t *starts, const pailradish_call *call,
+                                    const uint8_t *text, size_t text_bytes, uint16_t *panel, uint32_t *lit)
+{
+    return draw(true, font, font_words, starts, call, text, text_bytes, NULL, panel, lit);
+}
+
+APART pailradish_reply gather_mapped(const uint16_t *font, size_t font_words, const uint32_t *starts, const pailradish_call *call,
+                                     const uint8_t *text, size_t text_bytes, uint16_t *keep, uint16_t *flip)
+{
+    uint32_t lit = 0;
+    return draw(true, font, font_words, starts, call, text, text_bytes, keep, flip, &lit);
+}
+
+/* With an index. */
+APART pailradish_reply paint_index(const uint16_t *font, size_t font_words, const pailradish_call *call, const uint8_t *text,
+                                   size_t text_bytes, uint16_t *panel, uint32_t *lit)
+{
+    uint32_t starts[MOST_BODIES];
+    face f = index_of(by_words, font, font_words);
+    walk(by_words, font, &f, starts);
+    return paint_mapped(font, font_words, starts, call, text, text_bytes, panel, lit);
+}
+
+APART pailradish_reply gather_index(const uint16_t *font, size_t font_words, const pailradish_call *call, const uint8_t *text,
+                                    size_t text_bytes, uint16_t *keep, uint16_t *flip)
+{
+    uint32_t starts[MOST_BODIES];
+    face f = index_of(by_words, font, font_words);
+    walk(by_words, font, &f, starts);
+    return gather_mapped(font, font_words, starts, call, text, text_bytes, keep, flip);
 }
 
 pailradish_painted words_paint(const uint16_t *font, size_t font_words, pailradish_call call, const uint8_t *text, size_t text_bytes,
                                uint16_t *panel, size_t panel_words, pailradish_counts counts)
 {
-    (void)font_words, (void)panel_words;
-    pailradish_reply reply = draw(font, call, text, text_bytes, NULL, panel, &counts.lit[call.label.strip]);
+    (void)panel_words;
+    uint32_t *lit = &counts.lit[call.label.strip];
+    pailradish_reply reply;
+    if (font[0] & INDEX)
+        reply = paint_index(font, font_words, &call, text, text_bytes, panel, lit);
+    else
+        reply = draw(false, font, font_words, NULL, &call, text, text_bytes, NULL, panel, lit);
     return (pailradish_painted){reply, counts};
 }
 
 pailradish_reply words_gather(const uint16_t *font, size_t font_words, pailradish_call call, const uint8_t *text, size_t text_bytes,
                               uint16_t *keep, size_t keep_words, uint16_t *flip, size_t flip_words)
 {
-    (void)font_words, (void)keep_words, (void)flip_words;
+    (void)keep_words, (void)flip_words;
+    if (font[0] & INDEX)
+        return gather_index(font, font_words, &call, text, text_bytes, keep, flip);
     uint32_t lit = 0;
-    return draw(font, call, text, text_bytes, keep, flip, &lit);
+    return draw(false, font, font_words, NULL, &call, text, text_bytes, keep, flip, &lit);
 }
 
 /* The number by which a call is refused whose font is accepted, or 0. `lent` is the length of the shortest slice that holds a panel. Half a
@@ -197,7 +249,14 @@ ALWAYS uint32_t label_number(const pailradish_call *call, size_t text_bytes, siz
 
 ALWAYS uint32_t call_number(const uint16_t *font, size_t font_words, const pailradish_call *call, size_t text_bytes, size_t lent)
 {
-    uint32_t number = font_number(by_words, disorder_by_words, font, font_words);
+    uint32_t number = strike_number(by_words, disorder_by_words, font, font_words);
+    return number ? number : label_number(call, text_bytes, lent);
+}
+
+ALWAYS uint32_t index_call_number(const uint16_t *font, size_t font_words, const pailradish_call *call, size_t text_bytes, size_t lent,
+                                  survey *v)
+{
+    uint32_t number = index_number(by_words, disorder_by_words, font, font_words, v);
     return number ? number : label_number(call, text_bytes, lent);
 }
 
@@ -207,12 +266,12 @@ typedef struct {
     int rows, words;
 } band;
 
-ALWAYS band band_of(const uint16_t *font, pailradish_call call)
+ALWAYS band band_of(const face *f, const pailradish_call *call)
 {
-    face f = face_of(by_words, font);
-    frame r = frame_of(&f, call);
-    int first = r.strip / 16, end = r.strip + (int)call.shape.width;
-    return (band){r.target + (size_t)first, call.shape.row_words, r.rows, (end - 1) / 16 - first + 1};
+    frame r = frame_of(f, call);
+    int strip = (int)(call->label.strip * call->shape.width);
+    int first = strip / 16, end = strip + (int)call->shape.width;
+    return (band){r.target + (size_t)first, call->shape.row_words, r.rows, (end - 1) / 16 - first + 1};
 }
 
 /* At the most: 64 columns touch five words, in every row. */
@@ -242,9 +301,43 @@ ALWAYS bool some_over(const pailradish_counts *counts, uint32_t most)
 
 /* What the label does to the count is known when it is painted. So the words that it may alter are copied first, and are put back where the
    count is not what it may be; below 0 it is far over the most. */
+APART pailradish_painted tested_paint_index(const uint16_t *font, size_t font_words, const pailradish_call *call, const uint8_t *text,
+                                            size_t text_bytes, uint16_t *panel, size_t panel_words, const pailradish_counts *counts)
+{
+    survey v;
+    uint32_t number = index_call_number(font, font_words, call, text_bytes, panel_words, &v);
+    if (number)
+        return (pailradish_painted){{number, 0, 0}, *counts};
+    uint32_t most = call->shape.width * call->shape.rows;
+    if (some_over(counts, most))
+        return (pailradish_painted){{PAILRADISH_COUNT_RANGE, 0, 0}, *counts};
+    uint16_t kept[BAND_WORDS];
+    face tallest = {.ascent = v.above, .height = v.above + v.below};
+    band b = band_of(&tallest, call);
+    keep_band(b, panel, kept);
+    pailradish_painted painted = {.counts = *counts};
+    painted.reply = paint_mapped(font, font_words, v.starts, call, text, text_bytes, panel, &painted.counts.lit[call->label.strip]);
+    if (painted.counts.lit[call->label.strip] <= most)
+        return painted;
+    put_back(b, panel, kept);
+    return (pailradish_painted){{PAILRADISH_COUNT_RANGE, 0, 0}, *counts};
+}
+
+APART pailradish_reply tested_gather_index(const uint16_t *font, size_t font_words, const pailradish_call *call, const uint8_t *text,
+                                           size_t text_bytes, uint16_t *keep, uint16_t *flip, size_t lent)
+{
+    survey v;
+    uint32_t number = index_call_number(font, font_words, call, text_bytes, lent, &v);
+    if (number)
+        return (pailradish_reply){number, 0, 0};
+    return gather_mapped(font, font_words, v.starts, call, text, text_bytes, keep, flip);
+}
+
 pailradish_painted tested_paint(const uint16_t *font, size_t font_words, pailradish_call call, const uint8_t *text, size_t text_bytes,
                                 uint16_t *panel, size_t panel_words, pailradish_counts counts)
 {
+    if (has_index(by_words, font, font_words))
+        return tested_paint_index(font, font_words, &call, text, text_bytes, panel, panel_words, &counts);
     uint32_t number = call_number(font, font_words, &call, text_bytes, panel_words);
     if (number)
         return (pailradish_painted){{number, 0, 0}, counts};
@@ -252,7 +345,8 @@ pailradish_painted tested_paint(const uint16_t *font, size_t font_words, pailrad
     if (some_over(&counts, most))
         return (pailradish_painted){{PAILRADISH_COUNT_RANGE, 0, 0}, counts};
     uint16_t kept[BAND_WORDS];
-    band b = band_of(font, call);
+    face f = face_of(by_words, font);
+    band b = band_of(&f, &call);
     keep_band(b, panel, kept);
     pailradish_painted painted = words_paint(font, font_words, call, text, text_bytes, panel, panel_words, counts);
     if (painted.counts.lit[call.label.strip] <= most)
@@ -264,7 +358,10 @@ pailradish_painted tested_paint(const uint16_t *font, size_t font_words, pailrad
 pailradish_reply tested_gather(const uint16_t *font, size_t font_words, pailradish_call call, const uint8_t *text, size_t text_bytes,
                                uint16_t *keep, size_t keep_words, uint16_t *flip, size_t flip_words)
 {
-    uint32_t number = call_number(font, font_words, &call, text_bytes, keep_words < flip_words ? keep_words : flip_words);
+    size_t lent = keep_words < flip_words ? keep_words : flip_words;
+    if (has_index(by_words, font, font_words))
+        return tested_gather_index(font, font_words, &call, text, text_bytes, keep, flip, lent);
+    uint32_t number = call_number(font, font_words, &call, text_bytes, lent);
     if (number)
         return (pailradish_reply){number, 0, 0};
     return words_gather(font, font_words, call, text, text_bytes, keep, keep_words, flip, flip_words);

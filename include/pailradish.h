@@ -21,8 +21,8 @@
    Words are 16 bits. In a file's bytes the high byte of a word comes first; a slice of words has them in the processor's own order.
 
    Nothing is kept from one call to the next: no function allocates memory, has variables of its own, or uses a pointer after it has
-   returned. So calls may run at the same time where none writes what another uses. pailradish_convert takes about 7 KB of stack, every
-   other function about 2 KB or less. */
+   returned. So calls may run at the same time where none writes what another uses. pailradish_convert takes about 7 KB of stack,
+   pailradish_paint about 3.5 KB, every other function less than 2.5 KB. */
 #ifndef PAILRADISH_H
 #define PAILRADISH_H
 
@@ -41,7 +41,9 @@ enum {
     PAILRADISH_PANEL_WORDS = 32768, /* 128 * 256 */
     PAILRADISH_STRIP_COLUMNS = 64,
     PAILRADISH_LABEL_BYTES = 64,
-    PAILRADISH_FONT_WORDS = 65800   /* of a strike file, be it accepted or written */
+    PAILRADISH_FONT_WORDS = 65800,  /* of a strike file without an index, be it accepted or written */
+    PAILRADISH_BODIES = 128,        /* of an index */
+    PAILRADISH_INDEX_WORDS = 8389005 /* of a strike file with an index: 128 bodies of 65,535 words, and 525 words around them */
 };
 
 /* The least and the most of x and y. */
@@ -69,8 +71,9 @@ enum { PAILRADISH_PAINT = 0, PAILRADISH_ERASE = 1, PAILRADISH_INVERT = 2 };
            the pen, and the pen then moves by the picture's width. A kerned font says for each character where its left column is, which is
            pen + FBBox + offset and may be left of the pen, and how far the pen moves.
    y       The baseline, in rows from the top of the panel: -1024 to 1023. Row r of a picture, from 0 at its top, is in row y - ascent + r
-           of the panel, with the ascent of the font. So the `ascent` rows of a picture that stand on the baseline are in rows y - ascent to
-           y - 1. Row y is the first one below the letters' feet; what hangs below the baseline is in rows y to y + descent - 1.
+           of the panel, with the ascent of the font; of a font with an index, that of the body in which the picture is. So the `ascent`
+           rows of a picture that stand on the baseline are in rows y - ascent to y - 1. Row y is the first one below the letters' feet;
+           what hangs below the baseline is in rows y to y + descent - 1.
    mode    PAILRADISH_PAINT, PAILRADISH_ERASE or PAILRADISH_INVERT.
 
    Dots that come outside the strip, or outside the panel, are dropped. That is no refusal: a name that is too long ends at the edge of its
@@ -131,20 +134,27 @@ typedef struct {
 } pailradish_conversion;
 
 /* The numbers of the refusals, in the order of their tests: where several hold, the first is given. In a strike file n is the number of its
-   codes, max - min + 1, and height is ascent + descent. */
+   codes, max - min + 1, and height is ascent + descent. A file without an index is one body; the bodies of an index are tested in turn by
+   4, 5 and 6, so that 6 of the first comes before 4 of the second. FBBox is the font's, and is tested before them. */
 enum {
     PAILRADISH_DONE = 0,
 
     PAILRADISH_ODD_BYTES = 14,    /* an odd number of bytes, where words are read from bytes */
 
-    PAILRADISH_FONT_SHORT = 1,    /* fewer than 9 words; tested behind 2: fewer than 13 in a kerned file */
-    PAILRADISH_FONT_FORMAT = 2,   /* first word: top bit 0, the next one, for an index, 1, or the low twelve bits not 0 */
+    PAILRADISH_FONT_SHORT = 1,    /* fewer than 9 words; tested behind 2: fewer than 13 in a kerned file; behind 15: fewer than stand before
+                                     the bodies of an index, n + 8 in a plain one, n + 12 in a kerned one */
+    PAILRADISH_FONT_FORMAT = 2,   /* first word: top bit 0, or the low twelve bits not 0 */
     PAILRADISH_FONT_CODES = 3,    /* min over max, or max over 255 */
+    PAILRADISH_FONT_BODIES = 15,  /* an index of no body, or of more than 128 */
     PAILRADISH_FONT_SIZES = 4,    /* height not 1 to 256, raster not 1 to 4096, xoffset not 0, or in a kerned file FBBox not -255 to 255 */
     PAILRADISH_FONT_LENGTH = 5,   /* length word not raster * height + n + 7; or words of the file not raster * height and n + 11 more in a
-                                     plain one, 2 * n + 16 more in a kerned one */
+                                     plain one, 2 * n + 16 more in a kerned one. Of an index: five words of a body not all there (tested
+                                     before its 4), a length word below raster * height + 7, fewer words in the file than that; or behind
+                                     the last body not just n + 1 words in a kerned one, not none in a plain one */
     PAILRADISH_FONT_POINTERS = 6, /* a column pointer below the one before it, or the last one over 16 * raster */
-    PAILRADISH_FONT_DUMMY = 7,    /* in a kerned file the dummy's entry is FFFF; a plain file's dummy may have no columns */
+    PAILRADISH_FONT_NAMES = 16,   /* a map entry, of a code that is not absent or of the dummy, that names no body or no picture of it */
+    PAILRADISH_FONT_DUMMY = 7,    /* in a kerned file the dummy's width entry is FFFF, in an index the top bit of its map entry is 1. A
+                                     plain file's dummy may have no columns */
 
     PAILRADISH_PANEL_SIZE = 8,    /* row_words, rows or width out of range, strips wider than the panel, or a slice too short for it */
     PAILRADISH_STRIP_RANGE = 9,   /* strip over 31 */
@@ -174,9 +184,11 @@ static inline const char *pailradish_message(uint32_t number)
     case PAILRADISH_FONT_SHORT: return "font file too short for its header";
     case PAILRADISH_FONT_FORMAT: return "not a plain or kerned strike file";
     case PAILRADISH_FONT_CODES: return "font codes out of order or over 255";
+    case PAILRADISH_FONT_BODIES: return "index: number of bodies not 1 to 128";
     case PAILRADISH_FONT_SIZES: return "size in the font's header out of range";
     case PAILRADISH_FONT_LENGTH: return "font's length is not what its header says";
     case PAILRADISH_FONT_POINTERS: return "font's column pointers out of order or past the bitmap";
+    case PAILRADISH_FONT_NAMES: return "index: a code names no picture";
     case PAILRADISH_FONT_DUMMY: return "font has no dummy character";
     case PAILRADISH_PANEL_SIZE: return "panel size out of range, or its memory too short";
     case PAILRADISH_STRIP_RANGE: return "strip over 31";
@@ -196,25 +208,40 @@ static inline const char *pailradish_message(uint32_t number)
     }
 }
 
-/* Fonts. Each function that is handed a font tests it in every call, and is refused by 1, 2, 1 for a short kerned file, 3, 4, 5, 6 and 7:
-   below, "1 to 7". What is refused elsewhere comes in the order in which it is named.
+/* Fonts. There are four kinds of font file, and every function that is handed a font takes all of them and tells them apart by their first
+   word. A PlainStrike (8000) or a KernedStrike (9000) is one body: a bitmap, and for each code from min to max the columns of its picture
+   there. A PlainStrikeIndex (C000) or a KernedStrikeIndex (D000) has up to 128 bodies, and a map that names a body and a picture in it for
+   each code and for the dummy, so that many codes can share one picture. A third bit, 2000, for fixed spacing, may be set in each.
 
-   A text is bytes, each a code of the font. A zero does not end it. A code that the font does not have is shown as the font's dummy
-   character and counted as a substitute. Where a plain font gives its dummy no columns, nothing is drawn for such a code and the pen stays
-   where it is; it is counted all the same. */
+   Each body of an index has an ascent of its own, so that pictures of any height stand on the one baseline y of a label. No label touches
+   a row above y less the greatest ascent of a body, nor one at or below y plus the greatest descent; the words maxascent and maxdescent of
+   the file are not looked at. Codes of a kerned index that share a picture have each their own offset and spacing.
 
-/* Checks the bytes of a strike file: 14, or 1 to 7, or 0 for a font that is accepted. */
+   Absent is a code below min or over max; in a PlainStrike a code whose picture has no columns; in an index one whose map entry has its top
+   bit set; in both kerned kinds one whose width entry is FFFF. Any other code is there, also where its picture has no columns: nothing is
+   drawn then, and the pen moves by the spacing, in a PlainStrikeIndex by 0.
+
+   Each function that is handed a font tests it in every call, and is refused by 1, 2, 1 for a short kerned file, 3, 15, 1 for an index that
+   ends before its bodies, 4, 5, 6, 16 and 7: below, "the font's numbers". What is refused elsewhere comes in the order in which it is
+   named.
+
+   A text is bytes, each a code of the font. A zero does not end it. A code that is absent is shown as the font's dummy character and
+   counted as a substitute. Where a plain font gives its dummy no columns, nothing is drawn for such a code and the pen stays where it is;
+   it is counted all the same. */
+
+/* Checks the bytes of a strike file: 14, or the font's numbers, or 0 for a font that is accepted. */
 uint32_t pailradish_check(const uint8_t *font, size_t font_bytes);
 
-/* Measures a label with the font in these bytes, from the pen x on: what painting would reply, without a panel. Refused by 14, 1 to 7, 10
-   for x, and 11. */
+/* Measures a label with the font in these bytes, from the pen x on: what painting would reply, without a panel. Refused by 14, the font's
+   numbers, 10 for x, and 11. */
 pailradish_reply pailradish_measure(const uint8_t *font, size_t font_bytes, int32_t x, const uint8_t *text, size_t text_bytes);
 
 /* Writes the words that the bytes of a file spell, byte_count / 2 of them, over the first words; the words behind them stay. Refused by 14,
    and by 27 where word_count is below byte_count / 2. */
 pailradish_conversion pailradish_words(const uint8_t *bytes, size_t byte_count, uint16_t *words, size_t word_count);
 
-/* Paints a label on a panel. Refused by 1 to 7, 8, 9, 10, 11, 12 and 30. Of the counts only that of the label's strip changes. */
+/* Paints a label on a panel. Refused by the font's numbers, 8, 9, 10, 11, 12 and 30. Of the counts only that of the label's strip
+   changes. */
 pailradish_painted pailradish_paint(const uint16_t *font, size_t font_words, pailradish_call call, const uint8_t *text, size_t text_bytes,
                                     uint16_t *panel, size_t panel_words, pailradish_counts counts);
 
@@ -228,8 +255,8 @@ pailradish_settled pailradish_clear(pailradish_shape shape, uint16_t *panel, siz
 /* Makes a sheet fresh: applied, it alters nothing. keep becomes FFFF and flip 0. Refused by 8. */
 uint32_t pailradish_fresh(pailradish_shape shape, uint16_t *keep, size_t keep_words, uint16_t *flip, size_t flip_words);
 
-/* Gathers a label on a sheet, behind those that are on it, and replies as painting it does. Refused by 1 to 7, 8, for both halves, 9, 10,
-   11 and 12. There are no counts before the sheet is applied. */
+/* Gathers a label on a sheet, behind those that are on it, and replies as painting it does. Refused by the font's numbers, 8, for both
+   halves, 9, 10, 11 and 12. There are no counts before the sheet is applied. */
 pailradish_reply pailradish_gather(const uint16_t *font, size_t font_words, pailradish_call call, const uint8_t *text, size_t text_bytes,
                                    uint16_t *keep, size_t keep_words, uint16_t *flip, size_t flip_words);
 

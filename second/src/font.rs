@@ -1,33 +1,42 @@
-//! Reading PlainStrike and KernedStrike files.
+//! Reading the four kinds of strike files: PlainStrike, KernedStrike, PlainStrikeIndex and
+//! KernedStrikeIndex.
+
+mod body;
+mod index;
+mod strike;
 
 use crate::bits::{bit, signed};
 use crate::refusal::{refuse_if, Refused};
+use body::Body;
 
-const ABSENT: u16 = 0xFFFF;
-const PLAIN_HEADER: usize = 9;
-const KERNED_HEADER: usize = 13;
+const ABSENT_ENTRY: u16 = 0xFFFF;
+const LEAST_WORDS: usize = 9;
+const LEAST_KERNED_WORDS: usize = 13;
 
 /// A font file that passed every test of the reader.
 pub struct Font<'a> {
-    words: &'a [u16],
     header: Header,
+    /// Which body and which of its codes each code shows. A strike has none: it has one body,
+    /// and its codes are that body's, in order.
+    map: Option<&'a [u16]>,
+    bodies: Vec<Body<'a>>,
+    /// Offset and spacing of each code; a plain font has none.
+    entries: &'a [u16],
 }
 
-/// The header's words as plain numbers, so that no sum of them can wrap.
+/// What the words before the bodies say, as plain numbers, so that no sum of them can wrap.
 struct Header {
+    index: bool,
     kerned: bool,
     min: i64,
     max: i64,
+    /// 0 in a plain font.
     fbbox: i64,
-    length: i64,
-    ascent: i64,
-    descent: i64,
-    xoffset: i64,
-    raster: i64,
 }
 
 /// What a font shows for a code.
-pub struct Glyph {
+pub struct Glyph<'a> {
+    body: Body<'a>,
     first_column: i64,
     pub columns: i64,
     /// Where the left column goes, counted from the pen.
@@ -36,50 +45,40 @@ pub struct Glyph {
     pub substitute: bool,
 }
 
+/// The tests of the words that the four kinds have in common come first.
 pub fn read(words: &[u16]) -> Result<Font<'_>, Refused> {
-    refuse_if(words.len() < PLAIN_HEADER, 1)?;
-    refuse_if(!is_strike_format(words[0]), 2)?;
+    refuse_if(words.len() < LEAST_WORDS, 1)?;
+    refuse_if(!is_font_format(words[0]), 2)?;
     let kerned = bit(words, 3);
-    refuse_if(kerned && words.len() < KERNED_HEADER, 1)?;
-    let font = Font {
-        words,
-        header: Header::of(words, kerned),
+    refuse_if(kerned && words.len() < LEAST_KERNED_WORDS, 1)?;
+    let header = Header::of(words);
+    refuse_if(!header.codes_are_allowed(), 3)?;
+    let font = if header.index {
+        index::read(words, header)?
+    } else {
+        strike::read(words, header)?
     };
-    refuse_if(!font.header.codes_are_allowed(), 3)?;
-    refuse_if(!font.header.sizes_are_allowed(), 4)?;
-    refuse_if(!font.lengths_agree(), 5)?;
-    refuse_if(!font.pointers_are_allowed(), 6)?;
     refuse_if(font.lacks_dummy(), 7)?;
     Ok(font)
 }
 
-/// The fixed bit and the kerned bit may be either.
-fn is_strike_format(format: u16) -> bool {
+/// The index bit, the fixed bit and the kerned bit may be either.
+fn is_font_format(format: u16) -> bool {
     let always_one = bit(&[format], 0);
-    let index = bit(&[format], 1);
     let low_twelve_bits = format & 0x0FFF;
-    always_one && !index && low_twelve_bits == 0
+    always_one && low_twelve_bits == 0
 }
 
 impl Header {
-    fn of(words: &[u16], kerned: bool) -> Header {
-        let number = |place: usize| i64::from(words[place]);
-        let body = if kerned { 8 } else { 4 };
+    fn of(words: &[u16]) -> Header {
+        let kerned = bit(words, 3);
         Header {
+            index: bit(words, 1),
             kerned,
-            min: number(1),
-            max: number(2),
+            min: i64::from(words[1]),
+            max: i64::from(words[2]),
             fbbox: if kerned { signed(words[4]) } else { 0 },
-            length: number(body),
-            ascent: number(body + 1),
-            descent: number(body + 2),
-            xoffset: number(body + 3),
-            raster: number(body + 4),
         }
-    }
-
-    fn height(&self) -> i64 {
-        self.ascent + self.descent
     }
 
     /// The paper's n.
@@ -87,51 +86,47 @@ impl Header {
         self.max - self.min + 1
     }
 
+    fn dummy(&self) -> i64 {
+        self.max + 1
+    }
+
     fn codes_are_allowed(&self) -> bool {
         self.min <= self.max && self.max <= 255
     }
 
-    fn sizes_are_allowed(&self) -> bool {
-        (1..=256).contains(&self.height())
-            && (1..=4096).contains(&self.raster)
-            && self.xoffset == 0
-            && (!self.kerned || (-255..=255).contains(&self.fbbox))
+    fn fbbox_is_allowed(&self) -> bool {
+        (-255..=255).contains(&self.fbbox)
     }
 
-    fn body_length(&self) -> i64 {
-        self.raster * self.height() + self.codes() + 7
-    }
-
-    fn file_length(&self) -> i64 {
+    /// How many width entries stand at the end of the file.
+    fn entries(&self) -> i64 {
         if self.kerned {
-            self.raster * self.height() + 2 * self.codes() + 16
+            self.codes() + 1
         } else {
-            self.raster * self.height() + self.codes() + 11
+            0
         }
     }
 }
 
 impl<'a> Font<'a> {
-    pub fn ascent(&self) -> i64 {
-        self.header.ascent
-    }
-
-    pub fn height(&self) -> i64 {
-        self.header.height()
-    }
-
     /// The picture and the moves for a code, which may be any number.
-    pub fn glyph(&self, code: i64) -> Glyph {
+    pub fn glyph(&self, code: i64) -> Glyph<'a> {
         let substitute = !self.exists(code);
-        let shown = if substitute { self.dummy() } else { code };
-        let first_column = self.pointer(shown);
-        let columns = self.pointer(shown + 1) - first_column;
+        let shown = if substitute {
+            self.header.dummy()
+        } else {
+            code
+        };
+        let (body, code_in_body) = self.place_of_picture(shown);
+        let body = self.bodies[body];
+        let (first_column, columns) = body.columns_of(code_in_body);
         let (place, spacing) = if self.header.kerned {
             self.place_and_spacing(shown)
         } else {
             (0, columns)
         };
         Glyph {
+            body,
             first_column,
             columns,
             place,
@@ -140,41 +135,48 @@ impl<'a> Font<'a> {
         }
     }
 
-    /// One dot of a picture; there are none outside it.
-    pub fn dot(&self, glyph: &Glyph, row: i64, column: i64) -> bool {
-        let inside = (0..self.height()).contains(&row) && (0..glyph.columns).contains(&column);
-        inside && bit(self.row(row), (glyph.first_column + column) as usize)
-    }
-
-    /// One row of the strike, with no words at or past the height.
-    pub fn row(&self, row: i64) -> &'a [u16] {
-        if row >= self.height() {
-            return &[];
+    /// One row of a body, with no words where there is no such body or row.
+    pub fn row(&self, body: i64, row: i64) -> &'a [u16] {
+        match self.bodies.get(body as usize) {
+            Some(body) => body.row(row),
+            None => &[],
         }
-        let start = self.bitmap() + (row * self.header.raster) as usize;
-        &self.words[start..start + self.header.raster as usize]
-    }
-
-    fn dummy(&self) -> i64 {
-        self.header.max + 1
-    }
-
-    /// A plain font need not show anything for its dummy.
-    fn lacks_dummy(&self) -> bool {
-        self.header.kerned && self.width_entry(self.dummy()) == ABSENT
     }
 
     fn exists(&self, code: i64) -> bool {
-        self.header.min <= code && code <= self.header.max && self.has_picture(code)
+        (self.header.min..=self.header.max).contains(&code)
+            && !self.is_marked_absent(code)
+            && !self.is_plain_gap(code)
     }
 
-    /// For the codes from min to max: a kerned picture without columns is an empty
-    /// character and exists, a plain one does not.
-    fn has_picture(&self, code: i64) -> bool {
-        if self.header.kerned {
-            self.width_entry(code) != ABSENT
-        } else {
-            self.pointer(code) != self.pointer(code + 1)
+    /// For the codes from min to max + 1: marked in the map, or by the width entry.
+    fn is_marked_absent(&self, code: i64) -> bool {
+        let in_the_map = self.map.map_or(false, |map| {
+            let entry = map[self.place_in_tables(code)];
+            bit(&[entry], 0)
+        });
+        in_the_map || (self.header.kerned && self.width_entry(code) == ABSENT_ENTRY)
+    }
+
+    /// A plain strike has no other way to leave out a code than to give it no columns. In the
+    /// other kinds a picture without columns is an empty character and exists.
+    fn is_plain_gap(&self, code: i64) -> bool {
+        let is_plain_strike = !self.header.index && !self.header.kerned;
+        let (body, code_in_body) = self.place_of_picture(code);
+        is_plain_strike && self.bodies[body].columns_of(code_in_body).1 == 0
+    }
+
+    /// A plain strike need not show anything for its dummy.
+    fn lacks_dummy(&self) -> bool {
+        self.is_marked_absent(self.header.dummy())
+    }
+
+    /// The body, and the code in that body, of a code from min to max + 1.
+    fn place_of_picture(&self, code: i64) -> (usize, usize) {
+        let place = self.place_in_tables(code);
+        match self.map {
+            Some(map) => index::place_in_map_entry(map[place]),
+            None => (0, place),
         }
     }
 
@@ -184,48 +186,38 @@ impl<'a> Font<'a> {
         (self.header.fbbox + offset, spacing)
     }
 
-    fn bitmap(&self) -> usize {
-        if self.header.kerned {
-            KERNED_HEADER
-        } else {
-            PLAIN_HEADER
-        }
-    }
-
-    fn pointers_start(&self) -> usize {
-        self.bitmap() + (self.header.raster * self.height()) as usize
-    }
-
-    /// Pointers exist for the codes from min to max + 2.
-    fn pointer(&self, code: i64) -> i64 {
-        let place = self.pointers_start() + (code - self.header.min) as usize;
-        i64::from(self.words[place])
-    }
-
-    /// Entries exist for the codes from min to max + 1, behind the n + 2 pointers.
     fn width_entry(&self, code: i64) -> u16 {
-        let entries_start = self.pointers_start() + (self.header.codes() + 2) as usize;
-        self.words[entries_start + (code - self.header.min) as usize]
+        self.entries[self.place_in_tables(code)]
     }
 
-    fn lengths_agree(&self) -> bool {
-        self.header.length == self.header.body_length()
-            && self.words.len() as i64 == self.header.file_length()
-    }
-
-    fn pointers_are_allowed(&self) -> bool {
-        let last_code = self.header.max + 2;
-        let ascending = (self.header.min + 1..=last_code)
-            .all(|code| self.pointer(code - 1) <= self.pointer(code));
-        ascending && self.pointer(last_code) <= 16 * self.header.raster
+    /// Map and width entries begin with those of min.
+    fn place_in_tables(&self, code: i64) -> usize {
+        (code - self.header.min) as usize
     }
 }
 
-/// One row of the strike of a file; a refused font gives the empty row as a row past the
-/// height does.
-pub fn strike_row(words: &[u16], row: i64) -> &[u16] {
+impl Glyph<'_> {
+    /// How many rows of the picture stand above the baseline.
+    pub fn ascent(&self) -> i64 {
+        self.body.ascent
+    }
+
+    pub fn height(&self) -> i64 {
+        self.body.height()
+    }
+
+    /// One dot of the picture; there are none outside it.
+    pub fn dot(&self, row: i64, column: i64) -> bool {
+        let inside = (0..self.height()).contains(&row) && (0..self.columns).contains(&column);
+        inside && bit(self.body.row(row), (self.first_column + column) as usize)
+    }
+}
+
+/// One row of a body of a file; a refused font gives the empty row as a row past the height
+/// does.
+pub fn strike_row(words: &[u16], body: i64, row: i64) -> &[u16] {
     match read(words) {
-        Ok(font) => font.row(row),
+        Ok(font) => font.row(body, row),
         Err(_) => &[],
     }
 }

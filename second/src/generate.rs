@@ -7,6 +7,7 @@ mod cu_scenes;
 mod desk_scenes;
 pub mod font_files;
 mod font_scenes;
+mod index_scenes;
 pub mod label_calls;
 mod label_scenes;
 mod preview_inputs;
@@ -29,6 +30,7 @@ trait Scenes {
 #[derive(Debug, Clone, Copy, PartialEq, Eq)]
 pub enum Kind {
     Fonts,
+    Indexes,
     Labels,
     Sheets,
     Counts,
@@ -39,8 +41,9 @@ pub enum Kind {
 
 impl Kind {
     #[cfg(test)]
-    pub const ALL: [Kind; 7] = [
+    pub const ALL: [Kind; 8] = [
         Kind::Fonts,
+        Kind::Indexes,
         Kind::Labels,
         Kind::Sheets,
         Kind::Counts,
@@ -52,6 +55,7 @@ impl Kind {
     pub fn named(name: &str) -> Option<Kind> {
         match name {
             "fonts" => Some(Kind::Fonts),
+            "indexes" => Some(Kind::Indexes),
             "labels" => Some(Kind::Labels),
             "sheets" => Some(Kind::Sheets),
             "counts" => Some(Kind::Counts),
@@ -65,6 +69,7 @@ impl Kind {
     fn scenes(self) -> Box<dyn Scenes> {
         match self {
             Kind::Fonts => Box::new(font_scenes::FontScenes),
+            Kind::Indexes => Box::new(index_scenes::IndexScenes),
             Kind::Labels => Box::new(label_scenes::LabelScenes::default()),
             Kind::Sheets => Box::new(sheet_scenes::SheetScenes),
             Kind::Counts => Box::new(count_scenes::CountScenes::default()),

@@ -85,18 +85,19 @@ fn dots_of_label(font: &Font, call: &Call) -> (Vec<Place>, Pen) {
     let mut pen = Pen::starting_at(call.x);
     for &code in &call.label {
         let glyph = font.glyph(i64::from(code));
-        dots.extend(dots_of_glyph(font, &glyph, call, pen));
+        dots.extend(dots_of_glyph(&glyph, call, pen));
         pen = pen.moved_over(&glyph);
     }
     (dots, pen)
 }
 
-fn dots_of_glyph(font: &Font, glyph: &Glyph, call: &Call, pen: Pen) -> Vec<Place> {
+/// A picture's rows are placed by its own ascent: the bodies of an index have each its own.
+fn dots_of_glyph(glyph: &Glyph, call: &Call, pen: Pen) -> Vec<Place> {
     let mut dots = Vec::new();
-    for row in 0..font.height() {
+    for row in 0..glyph.height() {
         for column in 0..glyph.columns {
-            if font.dot(glyph, row, column) {
-                let panel_row = call.y - font.ascent() + row;
+            if glyph.dot(row, column) {
+                let panel_row = call.y - glyph.ascent() + row;
                 let strip_column = pen.x + glyph.place + column;
                 dots.extend(
                     call.shape

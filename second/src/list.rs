@@ -37,7 +37,7 @@ pub enum Command {
     Check,
     Glyph { code: i64 },
     Dots { code: i64, row: i64, column: i64 },
-    Row { row: i64 },
+    Row { body: i64, row: i64 },
     Measure { x: i64, label: Vec<u8> },
     Paint(Call),
     PaintLit(Call),
@@ -132,6 +132,7 @@ fn parse_command(name: &str, fields: &mut Fields) -> Result<Command, String> {
             column: fields.number()?,
         },
         "row" => Command::Row {
+            body: fields.number()?,
             row: fields.number()?,
         },
         "measure" => Command::Measure {

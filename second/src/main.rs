@@ -29,7 +29,7 @@ use preview::Arguments;
 use replay::Stopped;
 
 const USAGE: &str = "usage: second replay < LIST > ANSWERS
-       second generate fonts|labels|sheets|counts|cu|conversions|desk SEED COUNT > LIST
+       second generate fonts|indexes|labels|sheets|counts|cu|conversions|desk SEED COUNT > LIST
        second programs SEED COUNT DIRECTORY
        second preview [--counts] FONT R H W < LABELS > PICTURE
        second preview --help

@@ -4,14 +4,16 @@
 pub struct Refused(pub u32);
 
 /// Every number, in the order of the paper's table.
-pub const MESSAGES: [(u32, &str); 22] = [
+pub const MESSAGES: [(u32, &str); 24] = [
     (14, "odd number of bytes"),
     (1, "font file too short for its header"),
     (2, "not a plain or kerned strike file"),
     (3, "font codes out of order or over 255"),
+    (15, "index: number of bodies not 1 to 128"),
     (4, "size in the font's header out of range"),
     (5, "font's length is not what its header says"),
     (6, "font's column pointers out of order or past the bitmap"),
+    (16, "index: a code names no picture"),
     (7, "font has no dummy character"),
     (8, "panel size out of range, or its memory too short"),
     (9, "strip over 31"),

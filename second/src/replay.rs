@@ -102,7 +102,10 @@ impl Replay {
             Command::Check => format!("check {}", number_of(&font::read(&self.font))),
             Command::Glyph { code } => self.glyph(code),
             Command::Dots { code, row, column } => self.dots(code, row, column),
-            Command::Row { row } => format!("row{}", words_text(font::strike_row(&self.font, row))),
+            Command::Row { body, row } => {
+                let words = font::strike_row(&self.font, body, row);
+                format!("row{}", words_text(words))
+            }
             Command::Measure { x, label } => {
                 pen_answer("measure", label::measure(&self.font, x, &label))
             }
@@ -158,8 +161,8 @@ impl Replay {
                     glyph.place,
                     glyph.spacing,
                     u8::from(glyph.substitute),
-                    font.ascent(),
-                    font.height()
+                    glyph.ascent(),
+                    glyph.height()
                 )
             }
             Err(Refused(number)) => format!("glyph {number} 0 0 0 0 0 0"),
@@ -172,7 +175,7 @@ impl Replay {
                 let glyph = font.glyph(code);
                 let mut dots = [0];
                 for place in 0..16 {
-                    let dot = font.dot(&glyph, row, column + place);
+                    let dot = glyph.dot(row, column + place);
                     set_bit(&mut dots, place as usize, dot);
                 }
                 format!("dots 0 {:04X}", dots[0])

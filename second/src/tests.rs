@@ -4,6 +4,7 @@ mod counted_lists;
 mod counts;
 mod desk;
 mod generated;
+mod index;
 mod lists;
 mod paper;
 mod preview;

@@ -1,12 +1,16 @@
 /* Tries the limits of the header: the library accepts each, and refuses what is one past it by the number that the header has for it. Only
-   past the longest font there is nothing to try: its length word is 65,535, and has no more to say. Status 1: one is not so. */
+   past the longest fonts there is nothing to try: their length words are 65,535, and have no more to say. Status 1: one is not so. */
 #include <inttypes.h>
 #include <stdio.h>
+#include <string.h>
 
 #include "pailradish.h"
 
 /* A kerned font of 256 codes, 82 rows and 796 words in each, all of it empty. */
 static const uint16_t font[PAILRADISH_FONT_WORDS] = {0x9000, 0, 255, 0, 0, 0, 0, 0, 65535, 82, 0, 0, 796};
+/* A kerned index of 256 codes and as many bodies as there can be, each that font's. The map, which names one picture for all codes, and the
+   width entries are zeros. */
+static uint16_t many[PAILRADISH_INDEX_WORDS];
 static const uint8_t text[PAILRADISH_LABEL_BYTES + 1];
 static const pailradish_counts none;
 /* Longer than the largest panel, so that it is not too short for one that is a word or a row larger. */
@@ -27,6 +31,18 @@ static void expect(const char *what, uint32_t answer, uint32_t number)
 static uint32_t painting(pailradish_call call, size_t text_bytes, size_t panel_words, pailradish_counts counts)
 {
     return pailradish_paint(font, PAILRADISH_FONT_WORDS, call, text, text_bytes, panel, panel_words, counts).reply.number;
+}
+
+/* With the index, of which so many bodies are told. */
+static uint32_t with_bodies(uint16_t bodies)
+{
+    const uint16_t front[] = {0xD000, 0, 255, 0, 0, 0, 0, 0, 0, 0, bodies};
+
+    memcpy(many, front, sizeof front);
+    for (size_t k = 0; k < PAILRADISH_BODIES; k++)
+        memcpy(many + 268 + k * 65535, font + 8, 5 * sizeof *font);
+    return pailradish_paint(many, PAILRADISH_INDEX_WORDS, most, text, PAILRADISH_LABEL_BYTES, panel, PAILRADISH_PANEL_WORDS,
+                            none).reply.number;
 }
 
 static uint32_t with_text(size_t bytes)
@@ -85,6 +101,8 @@ static void expect_of_counts(size_t strip)
 int main(void)
 {
     expect("all at their most", with_call(most), PAILRADISH_DONE);
+    expect("the longest index", with_bodies(PAILRADISH_BODIES), PAILRADISH_DONE);
+    expect("an index of more bodies", with_bodies(PAILRADISH_BODIES + 1), PAILRADISH_FONT_BODIES);
     expect("the longest label", with_text(PAILRADISH_LABEL_BYTES), PAILRADISH_DONE);
     expect("a longer label", with_text(PAILRADISH_LABEL_BYTES + 1), PAILRADISH_LABEL_LONG);
     expect("the largest panel", with_panel(PAILRADISH_PANEL_WORDS), PAILRADISH_DONE);

@@ -14,6 +14,17 @@ use Rattle.claims.specs.Limits.{beside, inOrder, plainFlaws, kernedFlaws
 use Rattle.claims.specs.Limits.{cuFlaws, convertedBy, printedBy, planFlaws, plannedBy, conversionOrder}
 use Rattle.claims.specs.Counts.{painted as paintedCounting, refusedPainting, lostPainting, cleared, applied, spareApplied}
 use Rattle.claims.specs.Counts.{countLimits, litDots}
+use Rattle.claims.specs.Index.{drawn, dots, heldIn, measured as measuredByIndex, speltMeasured, painted as paintedByIndex}
+use Rattle.claims.specs.Index.{sheetOf, gathered as gatheredByIndex, applied as appliedByIndex}
+use Rattle.claims.specs.Index.{speakers, bareIndex, kernedShared, smallIndex, plainIndex, kernedIndex, plainTwo, kernedTwo}
+use Rattle.claims.specs.Index.{plainPictures, plainRows, plainMeasures, acrossBodies, sharedPainted, onSheets as onIndexSheets}
+use Rattle.claims.specs.Index.{kernedPictures, kernedSeen, kernedPainted, smallPainted, limitPictures, dotLimits, limitSeen}
+use Rattle.claims.specs.Index.{frontLimits, countLimits as bodyCounts, beforeBodies, sizeLimits as bodySizes}
+use Rattle.claims.specs.Index.{lengthLimits as bodyLengths, pointerLimits as bodyPointers, bodyByBody, nameLimits}
+use Rattle.claims.specs.Index.{dummyLimits as mappedDummies, unread as unreadByIndex}
+use Rattle.claims.specs.Index.{plainFlaws as plainIndexFlaws, kernedFlaws as kernedIndexFlaws, allSpoilt, fromEach}
+use Rattle.claims.specs.Index.{plainOrder, kernedOrder, callOrder}
+use Rattle.claims.specs.Index.{manyLimits, manySeen, manyPictures, largeLimits, largeDots, largeRows, counted, kernedCounted}
 use Rattle.counts.proofs.Compute.{computing as below}
 
 -- the worked cases
@@ -65,6 +76,39 @@ unfoldable pub countTables : Unit {0}
 unfolding paintedCounting refusedPainting lostPainting cleared applied spareApplied countLimits litDots
 countTables = tt
 
+-- fonts with an index
+unfoldable pub indexFonts : Unit {0}
+unfolding speakers bareIndex kernedShared smallIndex plainIndex kernedIndex plainTwo kernedTwo
+indexFonts = tt
+
+unfoldable pub indexSeen : Unit {0}
+unfolding drawn dots heldIn measuredByIndex speltMeasured paintedByIndex sheetOf gatheredByIndex appliedByIndex
+indexSeen = tt
+
+unfoldable pub indexTables : Unit {0}
+unfolding plainPictures plainRows plainMeasures acrossBodies sharedPainted onIndexSheets kernedPictures kernedSeen kernedPainted
+indexTables = tt
+
+unfoldable pub indexLimits : Unit {0}
+unfolding frontLimits bodyCounts beforeBodies bodySizes bodyLengths bodyPointers bodyByBody nameLimits mappedDummies unreadByIndex
+indexLimits = tt
+
+unfoldable pub indexAtLimits : Unit {0}
+unfolding smallPainted limitPictures dotLimits limitSeen counted kernedCounted
+indexAtLimits = tt
+
+unfoldable pub largeIndexes : Unit {0}
+unfolding manyLimits manySeen manyPictures largeLimits largeDots largeRows
+largeIndexes = tt
+
+unfoldable pub indexOrder : Unit {0}
+unfolding plainIndexFlaws kernedIndexFlaws allSpoilt fromEach plainOrder kernedOrder callOrder
+indexOrder = tt
+
+unfoldable pub index : Unit {0}
+unfolding indexFonts indexSeen indexTables indexLimits indexAtLimits largeIndexes indexOrder
+index = tt
+
 unfoldable pub computing : Unit {0}
-unfolding below countTables workedCases fonts seen fontTables edgeTables fileLimits calls conversions labelFlaws conversionFlaws
+unfolding below countTables workedCases fonts seen fontTables edgeTables fileLimits calls conversions labelFlaws conversionFlaws index
 computing = tt

@@ -32,7 +32,7 @@ in-two-steps [] = refl
 in-two-steps (r ∷ rows) =
     ap (λ (cs : List Counted). countedBy (r .shape) (r .call) (r .panel) (r .counts) ∷ cs) (in-two-steps rows)
 
-all-left : (rows : List Row) → numbers rows ≡ map (λ (r : Row). r .own) rows → panels rows ≡ map (λ (r : Row). r .after) rows
+pub all-left : (rows : List Row) → numbers rows ≡ map (λ (r : Row). r .own) rows → panels rows ≡ map (λ (r : Row). r .after) rows
     → counting rows (map (λ (r : Row). r .own) rows) (map (λ (r : Row). r .after) rows) ≡ map (λ (r : Row). r .left) rows → AllLeft rows
 all-left rows same-numbers same-panels counted = in-two-steps rows ∙ ap₂ (counting rows) same-numbers same-panels ∙ counted
 

@@ -5,3 +5,4 @@ pub mod Fonts
 pub mod Edges
 pub mod Limits
 pub mod Counts
+pub mod Index

@@ -51,8 +51,9 @@ shown font code =
     let g = faceOf font .glyph code in
     shows (picture (g .columns) (numberAt (g .place)) (g .advance) (g .substitute) (table (g .height) (λ r. dotsOf font g r 0)))
 
+-- a row of a strike without an index, whose only body is 0
 unfoldable pub held : List ℕ → ℕ → Seen
-held font row = holds (rowOf font row)
+held font row = holds (rowOf font 0 row)
 
 unfoldable pub measured : List ℕ → ℤ → List ℕ → Seen
 measured font x text = replies (measureOf font x text)

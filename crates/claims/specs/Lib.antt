@@ -3,3 +3,4 @@ pub mod Fonts
 pub mod Edges
 pub mod Limits
 pub mod Counts
+pub mod Index

@@ -72,21 +72,24 @@ shortFiles =
     ∷ reads (take 13 kernedFile) 5
     ∷ []
 
--- "2: top bit 0, index bit 1, or low twelve bits not zero"; fixed may be 0 or 1
+-- "2: top bit 0 .. or low twelve bits not zero"; fixed may be 0 or 1. P3: "the index bit alone is no longer refused 2"; as an index these
+-- two files have no body, 15
 unfoldable pub formats : List Row
 formats =
     reads plainFile 0
     ∷ reads (set plainFile 0 0xA000) 0
     ∷ reads (set plainFile 0 0x0000) 2
     ∷ reads (set plainFile 0 0x2000) 2
-    ∷ reads (set plainFile 0 0xC000) 2
+    ∷ reads (set plainFile 0 0x4000) 2
+    ∷ reads (set plainFile 0 0xC000) 15
     ∷ reads (set plainFile 0 0x8001) 2
     ∷ reads (set plainFile 0 0x8800) 2
     ∷ reads kernedFile 0
     ∷ reads (set kernedFile 0 0xB000) 0
     ∷ reads (set kernedFile 0 0x1000) 2
     ∷ reads (set kernedFile 0 0x3000) 2
-    ∷ reads (set kernedFile 0 0xD000) 2
+    ∷ reads (set kernedFile 0 0x5000) 2
+    ∷ reads (set kernedFile 0 0xD000) 15
     ∷ reads (set kernedFile 0 0x9001) 2
     ∷ reads (set kernedFile 0 0x9800) 2
     ∷ []
@@ -488,12 +491,12 @@ put number place w = flaw number (λ file. set file place w)
 abbrev pub overCodes : Flaw (List ℕ)
 overCodes = flaw 3 (λ file. set (set file 1 256) 2 257)
 
--- 2 is earned by the index bit, and 4 by a word among the first 8, so that it stands in a file cut to them: xoffset, or FBBox. A file that
+-- 2 is earned by the lowest bit, and 4 by a word among the first 8, so that it stands in a file cut to them: xoffset, or FBBox. A file that
 -- is cut has the wrong length too, so 5 stands beside 1. No plain file earns 7.
 unfoldable pub plainFlaws : List (Flaw (List ℕ))
 plainFlaws =
     cutTo 8
-    ∷ put 2 0 0xC000
+    ∷ put 2 0 0x8001
     ∷ overCodes
     ∷ put 4 7 1
     ∷ put 5 4 11
@@ -503,7 +506,7 @@ plainFlaws =
 unfoldable pub kernedFlaws : List (Flaw (List ℕ))
 kernedFlaws =
     cutTo 8
-    ∷ put 2 0 0xD000
+    ∷ put 2 0 0x9001
     ∷ cutTo 12
     ∷ overCodes
     ∷ put 4 4 256

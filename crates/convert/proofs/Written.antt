@@ -5,24 +5,30 @@ use mathlib.Core.Bool.{Bool, true, false, cond, _&&_, _||_}
 use native.Mathlib.Nat.{add-assoc}
 use native.Mathlib.Omega.{arith}
 use lib.Dec.{ltb, leb, eqb}
+use lib.ListN.{length}
 use borrow.Author.Tests.{le-ltb, le-leb, eq-eqb, ne-eqb, ltb-true, ltb-false, leb-true}
 use Rattle.words.specs.Word.{word, bitOf}
 use Rattle.words.specs.Refusal.{firstOf, orElse, notWithin}
 use Rattle.words.specs.Place.{placeOfWord}
 use Rattle.words.proofs.Bits.{bit-word-of}
+use Rattle.words.proofs.Tables.{table-length}
 use Rattle.words.proofs.Rows.{row-of, word-of-row, row-room}
-use Rattle.fonts.specs.declared.Glyph.{Glyph}
-use Rattle.fonts.specs.Strike.{bitmapAt, fileSum}
-use Rattle.fonts.specs.Reading.{tooShort, badFormat, kernedTooShort, badCodes, badBox, badSizes, badLength, lengthsDiffer}
-use Rattle.fonts.specs.Reading.{badPointers, fallsFrom, noDummy}
-use Rattle.fonts.specs.Reading.{headNumber, tableNumber, numberBy, fontNumber, accepted}
 use Rattle.fonts.specs.declared.Entry.{Entry}
-use Rattle.fonts.specs.Entry.{entryAt, present, columnsOf, leftOf, advanceOf}
-use Rattle.fonts.specs.Face.{exists, shown, glyphBy, glyphFrom, dotOf, faceFrom, faceOf}
+use Rattle.fonts.specs.declared.Glyph.{Glyph}
+use Rattle.fonts.specs.Strike.{startFrom, firstAt, behind, strikeIn}
+use Rattle.fonts.specs.Entry.{nameIn, entryAt, marked, struck, columnsOf, leftOf, advanceOf}
+use Rattle.fonts.specs.Reading.{tooShort, badFormat, kernedTooShort, badCodes, badCount, badBox, frontNumber}
+use Rattle.fonts.specs.Reading.{badSizes, wrongLength, wrongEnd, headNumber, fallsFrom, badPointers, bodyNumber, bodiesNumber}
+use Rattle.fonts.specs.Reading.{nameless, noDummy, tableNumber, numberBy, fontNumber, accepted}
+use Rattle.fonts.specs.Face.{inRange, pictureOf, glyphFrom, dotOf, faceFrom, faceOf}
+use Rattle.fonts.specs.Kinds.{onlyBitmap, there as isThere, glyphOver}
+use Rattle.fonts.proofs.Found.{first-in}
+use Rattle.fonts.proofs.Struck.{struck-glyph}
 use Rattle.fonts.proofs.Falling.{rising}
 use Rattle.convert.specs.Writing.{Drawing, minCode, maxCode, codeCount, fbbdy, rasterOf, pointerAt, allColumns, maxWidth, lengthWord, strikeDot, bitmapWord, pointerWord, fileOf, fileWords}
 use Rattle.convert.proofs.File.{pointersWritten, widthsWritten, file-length, file-bitmap}
-use Rattle.convert.proofs.Parts.{of-format, format-kerned, viewWritten, view-read, pointers-read, widths-read}
+use Rattle.convert.proofs.Parts.{of-format, format-kerned, format-single, headerWritten, bodyWritten, viewWritten}
+use Rattle.convert.proofs.Parts.{header-read, body-start, body-read, view-read, first-strike, pointers-read, widths-read}
 use Rattle.convert.proofs.Parts.{pointer-at, pointer-end, entry-at, entry-dummy}
 use Rattle.convert.proofs.Columns.{pointer-next, pointer-rises, raster-holds, strike-picture, strike-dummy, strike-bit}
 use Rattle.convert.proofs.Sound.{Sound, from-min, upto-max, in-tables, counted, own-columns, max-small, min-max, raster-some, raster-narrow, spacing-small, entry-small, max-width-small}
@@ -54,53 +60,95 @@ module _ (d : Drawing) (s : Sound d) where
   unfolding tooShort fileWords
   not-short = le-ltb (fileWords d) 9 (omega arith)
 
-  good-format : badFormat (viewWritten d .header) ≡ false
+  good-format : badFormat (headerWritten d) ≡ false
   unfolding badFormat bitOf
-  good-format = of-format d (λ f. (eqb (bitOf f 0) 0 || eqb (bitOf f 1) 1 || ltb 0 (f % 4096)) ≡ false) refl refl
+  good-format = of-format d (λ f. (eqb (bitOf f 0) 0 || ltb 0 (f % 4096)) ≡ false) refl refl
 
-  long-enough : kernedTooShort (viewWritten d .header) (fileWords d) ≡ false
-  unfolding kernedTooShort fileWords
-  long-enough = rw (format-kerned d, le-ltb (fileWords d) 13 (omega arith))
+  -- thirteen words stand before the bitmap: the header's, the box and the five of the body
+  head-there : ltb (fileWords d) 13 ≡ false
+  unfolding fileWords
+  head-there = le-ltb (fileWords d) 13 (omega arith)
 
-  good-codes : badCodes (viewWritten d .header) ≡ false
+  long-enough : kernedTooShort (headerWritten d) (fileWords d) ≡ false
+  unfolding kernedTooShort
+  long-enough = rw (format-kerned d, head-there)
+
+  good-codes : badCodes (headerWritten d) ≡ false
   unfolding badCodes
   good-codes = rw (le-ltb (maxCode d) (minCode d) (min-max d s), le-ltb 255 (maxCode d) (let small = max-small d s in omega arith))
 
-  good-box : badBox (viewWritten d .header) ≡ false
+  one-body : badCount (headerWritten d) ≡ false
+  unfolding badCount notWithin
+  one-body = refl
+
+  front-there : ltb (fileWords d) (firstAt (headerWritten d)) ≡ false
+  unfolding fileWords
+  front-there = rw (body-start d, le-ltb (fileWords d) 8 (omega arith))
+
+  good-box : badBox (headerWritten d) ≡ false
   unfolding badBox
   good-box = rw (format-kerned d, is-within 1793 2303 (placeOfWord (d .fbbox)) (s .box-from) (s .box-upto))
 
-  good-sizes : badSizes (viewWritten d .body) ≡ false
+  front-accepted : frontNumber (headerWritten d) (fileWords d) ≡ 0
+  unfolding frontNumber firstOf
+  front-accepted = rw (not-short, good-format, long-enough, good-codes, one-body, front-there, good-box)
+
+  -- of its one body, which is the last: it begins with word 8
+
+  good-sizes : badSizes (bodyWritten d) ≡ false
   unfolding badSizes fbbdy
   good-sizes =
       rw (is-within 1 256 (fbbdy d) (s .high) (s .low), is-within 1 4096 (rasterOf d) (raster-some d s) (raster-narrow d s))
 
-  good-length : badLength (viewWritten d) (fileWords d) ≡ false
-  unfolding lengthsDiffer lengthWord fileSum fileWords codeCount fbbdy
-  good-length = rw (format-kerned d, eq-eqb (lengthWord d) (lengthWord d) refl, eq-eqb (fileWords d) (fileWords d) refl)
+  good-length : wrongLength (headerWritten d) (bodyWritten d) ≡ false
+  unfolding wrongLength lengthWord codeCount fbbdy
+  good-length = rw (format-single d, eq-eqb (lengthWord d) (rasterOf d * fbbdy d + 7 + codeCount d) (omega arith))
 
-  head-accepted : headNumber (viewWritten d) (fileWords d) ≡ 0
+  nothing-behind : wrongEnd (headerWritten d) (8 + lengthWord d) true (fileWords d) ≡ false
+  unfolding wrongEnd behind lengthWord fileWords codeCount
+  nothing-behind = rw (format-kerned d, eq-eqb (fileWords d) (8 + lengthWord d + (codeCount d + 1)) (omega arith))
+
+  head-accepted : headNumber (headerWritten d) (bodyWritten d) 8 true (fileWords d) ≡ 0
   unfolding headNumber firstOf
-  head-accepted = rw (not-short, good-format, long-enough, good-codes, good-box, good-sizes, good-length)
+  head-accepted = rw (head-there, good-sizes, good-length, nothing-behind)
 
-  good-pointers : badPointers (viewWritten d .body) (fallsFrom 0 (pointersWritten d)) (entryWritten d (codeCount d)) ≡ false
-  unfolding badPointers codeCount
-  good-pointers =
-      rw (rising (codeCount d + 2) 0 (pointerWord d) (omega arith) (pointers-rise d), pointer-end d, le-ltb (16 * rasterOf d) (allColumns d) (raster-holds d))
+  none-falls : fallsFrom 0 (pointersWritten d) ≡ false
+  none-falls = rising (codeCount d + 2) 0 (pointerWord d) (omega arith) (pointers-rise d)
 
-  has-dummy : noDummy (viewWritten d .header) (entryWritten d (codeCount d)) ≡ false
-  unfolding noDummy codeCount
+  last-pointer : length (pointersWritten d) - 1 ≡ codeCount d + 1
+  last-pointer = let long = table-length (codeCount d + 2) (pointerWord d) in omega arith
+
+  good-pointers : badPointers (bodyWritten d) (pointersWritten d) ≡ false
+  unfolding badPointers
+  good-pointers = rw (none-falls, last-pointer, pointer-end d, le-ltb (16 * rasterOf d) (allColumns d) (raster-holds d))
+
+  body-accepted : bodyNumber (headerWritten d) (fileOf d) 8 true ≡ 0
+  unfolding bodyNumber firstOf orElse
+  body-accepted = rw (body-read d, file-length d, head-accepted, pointers-read d, good-pointers)
+
+  bodies-accepted : bodiesNumber (headerWritten d) (fileOf d) 1 ≡ 0
+  unfolding bodiesNumber startFrom orElse
+  bodies-accepted = rw (body-start d) body-accepted
+
+  -- and of the tables: without a map no code is lost
+
+  no-map : nameless (headerWritten d) (fileOf d) ≡ false
+  unfolding nameless
+  no-map = rw (format-single d)
+
+  has-dummy : noDummy (headerWritten d) (fileOf d) ≡ false
+  unfolding noDummy marked nameIn codeCount
   has-dummy =
       let narrow = max-width-small d s in
-      rw (format-kerned d, entry-dummy d, ne-eqb (maxWidth d) 0xFFFF (λ e. omega arith))
+      rw (format-single d, format-kerned d, widths-read d, entry-dummy d, ne-eqb (maxWidth d) 0xFFFF (λ e. omega arith))
 
-  tables-accepted : tableNumber (viewWritten d) (fallsFrom 0 (pointersWritten d)) (entryWritten d (codeCount d)) ≡ 0
+  tables-accepted : tableNumber (headerWritten d) (fileOf d) ≡ 0
   unfolding tableNumber firstOf
-  tables-accepted = rw (good-pointers, has-dummy)
+  tables-accepted = rw (no-map, has-dummy)
 
   pub written-accepted : fontNumber (fileOf d) ≡ 0
-  unfolding fontNumber numberBy orElse codeCount
-  written-accepted = rw (view-read d, file-length d, pointers-read d, widths-read d, head-accepted, tables-accepted)
+  unfolding fontNumber numberBy orElse
+  written-accepted = rw (header-read d, file-length d, front-accepted, bodies-accepted, tables-accepted)
 
   pub written-font : accepted (fileOf d) ≡ true
   unfolding accepted
@@ -136,6 +184,15 @@ dummyGlyph d = record {
   substitute = true;
 }
 
+-- the file has no index, so what it shows is what its two tables say
+glyph-read : (d : Drawing) (c : ℕ)
+    → faceOf (fileOf d) .glyph c ≡ glyphOver (viewWritten d) (entryWritten d (c - minCode d)) (entryWritten d (codeCount d)) c
+unfolding faceOf faceFrom glyphFrom codeCount
+glyph-read d c =
+    rw (view-read d)
+    (struck-glyph (viewWritten d) (strikeIn (viewWritten d) (fileOf d)) (fileOf d) (format-single d) (first-in (viewWritten d) (fileOf d)) c
+    ∙ rw (first-strike d, pointers-read d, widths-read d))
+
 -- what the two bytes of a width entry read as
 bytes : (entry high low : ℕ) → entry ≡ high * 256 + low → low ≤ 255 → (entry / 256 ≡ high) × (entry % 256 ≡ low)
 bytes entry high low e h = (omega arith, omega arith)
@@ -158,17 +215,17 @@ module _ (d : Drawing) (s : Sound d) (c : ℕ) (h : c < 256) (there : d .present
       let own = own-columns d c there in
       rw (pointer-at d (k + 1) (omega arith), pointer-at d k (omega arith)) (omega arith)
 
-  own-exists : exists (viewWritten d .header) (entryWritten d k) c ≡ true
-  unfolding exists present
+  own-exists : isThere (headerWritten d) (entryWritten d k) c ≡ true
+  unfolding isThere inRange struck
   own-exists =
       let small = entry-small d s c h there in
       rw (le-leb (minCode d) c (from-min d c there), le-leb c (maxCode d) (upto-max d c there h), format-kerned d, own-entry, ne-eqb (d .offset c * 256 + d .spacing c) 0xFFFF (λ e. omega arith))
 
   pub written-glyph : faceOf (fileOf d) .glyph c ≡ ownGlyph d c
-  unfolding faceOf faceFrom glyphFrom glyphBy shown leftOf advanceOf bitmapAt fbbdy
+  unfolding glyphOver pictureOf onlyBitmap leftOf advanceOf fbbdy
   written-glyph =
       let less = in-tables d c there h in
-      rw (view-read d, pointers-read d, widths-read d, own-exists, format-kerned d)
+      rw (glyph-read d c, own-exists, format-kerned d)
       (λ i. record {
         bitmap = 13;
         raster = rasterOf d;
@@ -195,27 +252,27 @@ module _ (d : Drawing) (s : Sound d) where
   -- every other code: one that is past 255, or is not there
   module _ (c : ℕ) (none : c < 256 → d .present c ≡ false) where
     -- it lies outside min to max, or its entry says that it is absent
-    absent-entry : minCode d ≤ c → c ≤ maxCode d → present (viewWritten d .header) (entryWritten d (c - minCode d)) ≡ false
-    unfolding present codeCount
+    absent-entry : minCode d ≤ c → c ≤ maxCode d → struck (headerWritten d) (entryWritten d (c - minCode d)) ≡ false
+    unfolding struck codeCount
     absent-entry from upto =
         let small = max-small d s in
         let code : minCode d + (c - minCode d) ≡ c = omega arith in
         rw (format-kerned d, entry-at d (c - minCode d) (omega arith), code, none (omega arith))
 
-    not-there : exists (viewWritten d .header) (entryWritten d (c - minCode d)) c ≡ false
-    unfolding exists
+    not-there : isThere (headerWritten d) (entryWritten d (c - minCode d)) c ≡ false
+    unfolding isThere inRange
     not-there = within-or-not (leb (minCode d) c) refl (leb c (maxCode d)) refl
       where
         within-or-not : (p : Bool) → leb (minCode d) c ≡ p → (q : Bool) → leb c (maxCode d) ≡ q
-            → (p && q && present (viewWritten d .header) (entryWritten d (c - minCode d))) ≡ false
+            → (p && q && struck (headerWritten d) (entryWritten d (c - minCode d))) ≡ false
         within-or-not false from q upto = refl
         within-or-not true from false upto = refl
         within-or-not true from true upto = absent-entry (leb-true (minCode d) c from) (leb-true c (maxCode d) upto)
 
     pub written-dummy : faceOf (fileOf d) .glyph c ≡ dummyGlyph d
-    unfolding faceOf faceFrom glyphFrom glyphBy shown leftOf advanceOf bitmapAt fbbdy codeCount
+    unfolding glyphOver pictureOf onlyBitmap leftOf advanceOf fbbdy codeCount
     written-dummy =
-        rw (view-read d, pointers-read d, widths-read d, not-there, format-kerned d)
+        rw (glyph-read d c, not-there, format-kerned d)
         (λ i. record {
           bitmap = 13;
           raster = rasterOf d;

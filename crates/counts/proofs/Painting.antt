@@ -89,7 +89,7 @@ module _ (v : View) (font : List ℕ) (s : Shape) (l : Label) (text panel counts
 
   -- the lit dots of the strip in the rows that are reached, as they were and as the label leaves them
   abbrev were : ℕ
-  were = litReached v s l panel
+  were = litReached v font s l panel
 
   abbrev left : ℕ
   left = leftReached v font s l text panel

@@ -16,7 +16,9 @@ use Rattle.words.specs.Place.{placeOf}
 use Rattle.fonts.specs.declared.View.{View}
 use Rattle.paint.specs.declared.Shape.{Shape}
 use Rattle.paint.specs.declared.Label.{Label}
-use Rattle.fonts.specs.Face.{Face, faceFrom, glyphFrom, glyphBy, stepOf}
+use Rattle.fonts.specs.Strike.{extentOf}
+use Rattle.fonts.specs.Face.{Face, faceFrom, stepOf}
+use Rattle.fonts.proofs.Extents.{glyph-rise, glyph-fall}
 use Rattle.fonts.proofs.Dots.{dot-past}
 use Rattle.paint.specs.declared.Stroke.{Stroke}
 use Rattle.paint.specs.declared.Pen.{Pen}
@@ -36,15 +38,17 @@ use Rattle.counts.proofs.Sums.{dots-same, dots-split, dots-le}
 use Rattle.counts.proofs.Balance.{panel-dot}
 use Rattle.counts.proofs.Settling.{strip-within}
 
-pub reached-below : (v : View) (s : Shape) (l : Label) → rowsReached v s l .first + rowsReached v s l .count ≤ s .rows
+pub reached-below : (v : View) (font : List ℕ) (s : Shape) (l : Label)
+    → rowsReached v font s l .first + rowsReached v font s l .count ≤ s .rows
 unfolding rowsReached
-reached-below v s l = omega arith
+reached-below v font s l = omega arith
 
 -- they have no more dots than that
-pub reached-most : (v : View) (s : Shape) (l : Label) (panel : List ℕ) → litReached v s l panel ≤ s .width * rowsReached v s l .count
+pub reached-most : (v : View) (font : List ℕ) (s : Shape) (l : Label) (panel : List ℕ)
+    → litReached v font s l panel ≤ s .width * rowsReached v font s l .count
 unfolding litReached
-reached-most v s l panel =
-    let rows = rowsReached v s l in
+reached-most v font s l panel =
+    let rows = rowsReached v font s l in
     let wide : (stripOf s (l .strip) .upto - stripOf s (l .strip) .from) * rows .count ≡ s .width * rows .count =
     ap (λ (n : ℕ). n * rows .count) (omega arith) in
     let most = dots-le (stripOf s (l .strip)) (rows .first) (rows .count) (panelDot s panel)
@@ -81,21 +85,24 @@ module _ (v : View) (font : List ℕ) (s : Shape) (l : Label) where
       ∙ identity-join identity (omega arith, omega arith)
 
   module _ (row w : ℕ) (across : w < s .rowwords) (on : row < s .rows) where
-    above-idle : row < firstRow v s l → (pen : Pen) (c : ℕ)
+    above-idle : row < firstRow (extentOf v font) s l → (pen : Pen) (c : ℕ)
         → pictureEffect (face .dot) stroke pen (face .glyph c) (row * s .rowwords + w) ≡ identity
-    unfolding faceFrom glyphFrom glyphBy strokeOf
+    unfolding strokeOf
     above-idle above pen c =
+        let rise = glyph-rise v font c in
         picture-at (face .dot) stroke pen (face .glyph c) row w across
-        ∙ no-marks (stroke .mode) _ (sym (mask-above (face .dot) stroke pen (face .glyph c) row (16 * w) (omega (arith, above))))
+        ∙ no-marks (stroke .mode) _ (sym (mask-above (face .dot) stroke pen (face .glyph c) row (16 * w) (omega (arith, above, rise))))
 
-    under-idle : endRow v s l ≤ row → (pen : Pen) (c : ℕ)
+    under-idle : endRow (extentOf v font) s l ≤ row → (pen : Pen) (c : ℕ)
         → pictureEffect (face .dot) stroke pen (face .glyph c) (row * s .rowwords + w) ≡ identity
-    unfolding faceFrom glyphFrom glyphBy strokeOf
+    unfolding strokeOf faceFrom
     under-idle under pen c =
+        let rise = glyph-rise v font c in
+        let fall = glyph-fall v font c in
         picture-at (face .dot) stroke pen (face .glyph c) row w across
         ∙ no-marks (stroke .mode) _
         (mask-under (face .dot) stroke pen (face .glyph c) row (16 * w) (λ r j h. dot-past font (face .glyph c) r j h)
-        (omega (arith, under, on)))
+        (omega (arith, under, on, rise, fall)))
 
 -- so painting leaves the dots of the other rows, and a strip's lit dots change by what changes in the rows that are reached
 module _ (v : View) (font : List ℕ) (s : Shape) (l : Label) (text panel : List ℕ)
@@ -116,7 +123,7 @@ module _ (v : View) (font : List ℕ) (s : Shape) (l : Label) (text panel : List
       ∙ apply-identity (word panel i) (words i))
 
   abbrev rows : Rows
-  rows = rowsReached v s l
+  rows = rowsReached v font s l
 
   module _ (row column : ℕ) (on : row < s .rows) (across : column < 16 * s .rowwords) where
     in-panel : row * s .rowwords + column / 16 < panelWords s
@@ -150,12 +157,12 @@ module _ (v : View) (font : List ℕ) (s : Shape) (l : Label) (text panel : List
   below = s .rows - (rows .first + rows .count)
 
   in-parts : (p : List ℕ) → lit s (l .strip) p
-      ≡ overDots strip 0 (rows .first) (panelDot s p) + litReached v s l p
+      ≡ overDots strip 0 (rows .first) (panelDot s p) + litReached v font s l p
       + overDots strip (0 + (rows .first + rows .count)) below (panelDot s p)
   unfolding lit litReached
   in-parts p =
       let f = panelDot s p in
-      let low = reached-below v s l in
+      let low = reached-below v font s l in
       let whole : s .rows ≡ rows .first + rows .count + below = omega (arith, low) in
       ap (λ (n : ℕ). overDots strip 0 n f) whole
       ∙ dots-split strip 0 (rows .first + rows .count) below f
@@ -163,9 +170,9 @@ module _ (v : View) (font : List ℕ) (s : Shape) (l : Label) (text panel : List
       (dots-split strip 0 (rows .first) (rows .count) f
       ∙ ap (λ (r : ℕ). overDots strip 0 (rows .first) f + overDots strip r (rows .count) f) (zero-add (rows .first)))
 
-  pub reached-alone : lit s (l .strip) after + litReached v s l panel ≡ lit s (l .strip) panel + litReached v s l after
+  pub reached-alone : lit s (l .strip) after + litReached v font s l panel ≡ lit s (l .strip) panel + litReached v font s l after
   reached-alone =
-      let low = reached-below v s l in
+      let low = reached-below v font s l in
       let one = accepted-label s (length panel) l (length text) (sym accepted) .strip in
       let fits = strip-within s (l .strip) (length panel) good one in
       let top = dots-same strip 0 (rows .first) (panelDot s after) (panelDot s panel)

@@ -14,7 +14,8 @@ use Rattle.words.specs.Effect.{applyTo}
 use Rattle.words.specs.Search.{sumBelow, someBelow}
 use Rattle.words.specs.Place.{placeOf}
 use Rattle.fonts.specs.declared.View.{View}
-use Rattle.fonts.specs.Strike.{viewOf}
+use Rattle.fonts.specs.declared.Extent.{Extent}
+use Rattle.fonts.specs.Strike.{viewOf, extentOf}
 use Rattle.fonts.specs.Reading.{fontNumber}
 use Rattle.fonts.specs.Face.{faceFrom}
 use Rattle.paint.specs.declared.Shape.{Shape}
@@ -81,22 +82,24 @@ abbrev pub Read : View → List ℕ → Type 0
 Read v font = (v ≡ viewOf font) × (fontNumber font ≡ 0)
 
 -- the rows that the pictures of a label may reach, with a font that has been read
-abbrev pub firstRow : View → Shape → Label → ℕ
-firstRow v s l = min (s .rows) (placeOf (l .y) - (2048 + v .body .ascent))
+abbrev pub firstRow : Extent → Shape → Label → ℕ
+firstRow e s l = min (s .rows) (placeOf (l .y) - (2048 + e .above))
 
-abbrev pub endRow : View → Shape → Label → ℕ
-endRow v s l = min (s .rows) (placeOf (l .y) + v .body .ascent + v .body .descent - (2048 + v .body .ascent))
+abbrev pub endRow : Extent → Shape → Label → ℕ
+endRow e s l = min (s .rows) (placeOf (l .y) + e .above + e .below - (2048 + e .above))
 
-unfoldable pub rowsReached : View → Shape → Label → Rows
-rowsReached v s l = record { first = firstRow v s l; count = endRow v s l - firstRow v s l }
+unfoldable pub rowsReached : View → List ℕ → Shape → Label → Rows
+rowsReached v font s l =
+    let e = extentOf v font in
+    record { first = firstRow e s l; count = endRow e s l - firstRow e s l }
 
 -- the lit dots of its strip in these
-unfoldable pub litReached : View → Shape → Label → List ℕ → ℕ
-litReached v s l panel = litIn s (l .strip) (rowsReached v s l .first) (rowsReached v s l .count) panel
+unfoldable pub litReached : View → List ℕ → Shape → Label → List ℕ → ℕ
+litReached v font s l panel = litIn s (l .strip) (rowsReached v font s l .first) (rowsReached v font s l .count) panel
 
 -- and those that the label, painted, leaves lit there
 abbrev pub leftReached : View → List ℕ → Shape → Label → List ℕ → List ℕ → ℕ
-leftReached v font s l text panel = litReached v s l (paintWith (faceFrom v font) s l text panel)
+leftReached v font s l text panel = litReached v font s l (paintWith (faceFrom v font) s l text panel)
 
 -- whatever a label leaves lit of some rows, the count of its strip stays what it may be
 abbrev pub Sure : Shape → Rows → Tally → Type 0

@@ -105,13 +105,14 @@ fn moved(held: u32, more: u32, fewer: u32) -> u32
 
 impl Rows {
     // Those that the pictures of a label may reach.
-    fn reached(v: View, s: Shape, l: Label) -> Rows
-        ensures { λ r. ⌜ r ≡ rowsReached v s l ⌝ }
+    fn reached(font: &[u16], v: View, s: Shape, l: Label) -> Rows
+        ensures { λ r. ⌜ r ≡ rowsReached v (given font) s l ⌝ }
     {
         let rows = s.rows as usize;
         let y = words::place_of(l.y);
-        let above = 2048 + v.body.ascent as usize;
-        let below = y + v.body.ascent as usize + v.body.descent as usize;
+        let e = fonts::rows_in_all(font, v);
+        let above = 2048 + e.above as usize;
+        let below = y + e.above as usize + e.below as usize;
         let first = words::least(rows, words::past(y, above));
         let end = words::least(rows, words::past(below, above));
         Rows {
@@ -340,7 +341,7 @@ fn left_by_label(font: &[u16], v: View, s: Shape, l: Label, text: &[u8], panel: 
     requires { ⌜ numberWith s (length (now panel) ∷ []) l (length (now text)) ≡ 0 ⌝ }
     ensures { λ r. ⌜ r ≡ leftReached v (given font) s l (given text) (given panel) ⌝ }
 {
-    let rows = Rows::reached(v, s, l);
+    let rows = Rows::reached(font, v, s, l);
     let mut sum = 0;
     let mut i = 0;
     while i < rows.count {
@@ -367,7 +368,7 @@ fn refuses(font: &[u16], v: View, s: Shape, l: Label, text: &[u8], panel: &[u16]
     requires { ⌜ numberWith s (length (now panel) ∷ []) l (length (now text)) ≡ 0 ⌝ }
     ensures { λ r. ⌜ r ≡ leaves (s .width * s .rows) (t .held) (leftReached v (given font) s l (given text) (given panel)) (t .lit) ⌝ }
 {
-    if sure(s, Rows::reached(v, s, l), t) {
+    if sure(s, Rows::reached(font, v, s, l), t) {
         return false;
     }
     let left = left_by_label(font, v, s, l, text, panel);
@@ -416,7 +417,7 @@ fn paint_accepted(
     ensures { λ r. ⌜ r ≡ paintedOf s (callOf (given font) l (given text)) (given panel) counts ⌝ }
     ensures panel { λ r. ⌜ after panel ≡ paintCounted s (callOf (given font) l (given text)) (given panel) counts .panel ⌝ }
 {
-    let rows = Rows::reached(v, s, l);
+    let rows = Rows::reached(font, v, s, l);
     let t = Tally {
         held: count_of(counts, l.strip),
         lit: lit_in(rows, s, l.strip, panel),

@@ -8,6 +8,9 @@ use Rattle.words.proofs.Outcomes.{OneReply}
 use Rattle.fontbytes.proofs.view as view
 use Rattle.fontbytes.proofs.pointers as pointers
 use Rattle.fontbytes.proofs.widths as widths
+use Rattle.fontbytes.proofs.map as map
+use Rattle.fontbytes.proofs.bitmaps as bitmaps
+use Rattle.fontbytes.proofs.found_step as found-step
 use Rattle.fontbytes.proofs.number as number
 use Rattle.fontbytes.proofs.read as read
 use Rattle.fontbytes.proofs.dummy_advance as dummy-advance
@@ -25,6 +28,17 @@ pub widths-one : (κs : Lfts 1) (a : Dens κs widths.Kinds.ps) (r o : resT width
     (e e′ : AtExit (endedOf 1 widths.Kinds.ps widths.Kinds.r) κs)
     → widths.Reads.Post κs a r e → widths.Reads.Post κs a o e′ → now r ≡ now o
 widths-one κs a r o e e′ p q = p ∙ sym q
+
+pub map-one : (κs : Lfts 1) (a : Dens κs map.Kinds.ps) (r o : resT map.Kinds.r κs .Denot)
+    (e e′ : AtExit (endedOf 1 map.Kinds.ps map.Kinds.r) κs)
+    → map.Reads.Post κs a r e → map.Reads.Post κs a o e′ → now r ≡ now o
+map-one κs a r o e e′ p q = p ∙ sym q
+
+pub bitmaps-one : OneReply 1 bitmaps.Kinds.ps bitmaps.Kinds.r bitmaps.Reads.Post
+bitmaps-one κs a r o e e′ p q = p ∙ sym q
+
+pub found-step-one : OneReply 2 found-step.Kinds.ps found-step.Kinds.r found-step.Reads.Post
+found-step-one κs a r o e e′ p q = p ∙ sym q
 
 pub number-one : OneReply 1 number.Kinds.ps number.Kinds.r number.Reads.Post
 number-one κs a r o e e′ p q = p ∙ sym q

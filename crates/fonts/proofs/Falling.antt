@@ -1,13 +1,13 @@
 -- The test for a falling pointer, one pointer at a time.
 use Prim.Native.Nat.{ℕ, zero, suc, _+_, _<_, _≤_}
-use mathlib.Core.Path.{_≡_, refl, _∙_}
-use mathlib.Core.Bool.{true, false, _||_}
+use mathlib.Core.Path.{_≡_, refl, sym, ap, _∙_}
+use mathlib.Core.Bool.{Bool, true, false, _||_}
 use mathlib.Core.List.{List}
 use native.Mathlib.Numerals.{add-one}
 use lib.Dec.{ltb}
 use lib.ListN.{length, getD, drop, drop-of-length-le}
 use lib.Seq.{drop-cons}
-use borrow.Author.Tests.{lt-ltb, le-ltb}
+use borrow.Author.Tests.{le-ltb}
 use Rattle.words.specs.Word.{table}
 use Rattle.fonts.specs.Reading.{fallsFrom}
 
@@ -16,15 +16,34 @@ module _ (xs : List ℕ) (i before : ℕ) (here : i < length xs) where
   unfolding fallsFrom
   falls-step = rw (add-one, drop-cons xs i 0)
 
-  pub falls-here : getD xs i 0 < before → fallsFrom before (drop i xs) ≡ true
-  falls-here h = falls-step ∙ rw (lt-ltb (getD xs i 0) before h)
-
-  pub falls-later : before ≤ getD xs i 0 → fallsFrom before (drop i xs) ≡ fallsFrom (getD xs i 0) (drop (i + 1) xs)
-  falls-later h = falls-step ∙ rw (le-ltb (getD xs i 0) before h)
-
 pub falls-no-more : (xs : List ℕ) (i before : ℕ) → length xs ≤ i → fallsFrom before (drop i xs) ≡ false
 unfolding fallsFrom
 falls-no-more xs i before h = rw (drop-of-length-le xs h)
+
+-- a loop has looked at one pointer more: the test is in what is known, and no longer in what is left
+moved : (fallen here rest : Bool) → (fallen || (here || rest)) ≡ ((here || fallen) || rest)
+moved true true rest = refl
+moved true false rest = refl
+moved false true rest = refl
+moved false false rest = refl
+
+nothing-left : (fallen : Bool) → (fallen || false) ≡ fallen
+nothing-left true = refl
+nothing-left false = refl
+
+module _ (xs : List ℕ) (i before : ℕ) (fallen : Bool) (so-far : fallsFrom 0 xs ≡ (fallen || fallsFrom before (drop i xs))) where
+  pub falls-more : (next : Bool) (pointer : ℕ) → i < length xs → pointer ≡ getD xs i 0 → next ≡ (ltb pointer before || fallen)
+      → fallsFrom 0 xs ≡ (next || fallsFrom pointer (drop (i + 1) xs))
+  falls-more next pointer here read told =
+      let same = sym read in
+      so-far
+      ∙ ap (_||_ fallen) (falls-step xs i before here)
+      ∙ moved fallen (ltb (getD xs i 0) before) _
+      ∙ (λ t. (ltb (same t) before || fallen) || fallsFrom (same t) (drop (i + 1) xs))
+      ∙ ap (λ f. f || fallsFrom pointer (drop (i + 1) xs)) (sym told)
+
+  pub falls-all : length xs ≤ i → fallen ≡ fallsFrom 0 xs
+  falls-all past = sym (so-far ∙ ap (_||_ fallen) (falls-no-more xs i before past) ∙ nothing-left fallen)
 
 -- pointers that rise do not fall
 pub rising : (n before : ℕ) (f : ℕ → ℕ) → before ≤ f 0 → ((i : ℕ) → f i ≤ f (suc i)) → fallsFrom before (table n f) ≡ false

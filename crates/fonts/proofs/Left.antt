@@ -18,7 +18,8 @@ use Rattle.fonts.specs.declared.Entry.{Entry}
 use Rattle.fonts.specs.Strike.{viewOf, headerOf, headerBy, kernedFormat, kerned}
 use Rattle.fonts.specs.Entry.{leftOf, leftFromPen}
 use Rattle.fonts.specs.Reading.{badBox, fontNumber}
-use Rattle.fonts.specs.Face.{faceOf, faceFrom, glyphFrom, glyphBy, shown, ownEntry, dummyEntry}
+use Rattle.fonts.specs.Strike.{strikeIn}
+use Rattle.fonts.specs.Face.{faceOf, faceFrom, glyphFrom, glyphBy, pictureOf, entryIn, placeOfCode}
 use Rattle.fonts.proofs.Accepted.{accepted-sound}
 
 -- a word whose place 4 does not refuse, in two's complement
@@ -65,11 +66,11 @@ fbbox-small ws words = by-kind (kernedFormat (word ws 0))
     by-kind true = words 4
     by-kind false = omega arith
 
--- what an accepted font shows for a code
+-- what an accepted font shows for a code, by the entry that is shown
 pub glyph-left : (ws : List ℕ) → AllWords ws → fontNumber ws ≡ 0 → (c : ℕ)
     → numberAt (faceOf ws .glyph c .place)
-    ≡ leftFromPen (viewOf ws .header) (shown (viewOf ws .header) (ownEntry (viewOf ws) ws c) (dummyEntry (viewOf ws) ws) c)
-unfolding faceOf faceFrom glyphFrom glyphBy viewOf
+    ≡ leftFromPen (viewOf ws .header)
+    (entryIn (viewOf ws .header) (strikeIn (viewOf ws) ws) ws (placeOfCode (viewOf ws .header) (strikeIn (viewOf ws) ws) ws c))
+unfolding faceOf faceFrom glyphFrom glyphBy pictureOf viewOf
 glyph-left ws words good c =
-    left-is (viewOf ws .header) (shown (viewOf ws .header) (ownEntry (viewOf ws) ws c) (dummyEntry (viewOf ws) ws) c)
-    (fbbox-small ws words) (accepted-sound ws good .box)
+    left-is (viewOf ws .header) _ (fbbox-small ws words) (accepted-sound ws good .box)

@@ -1,5 +1,12 @@
 pub mod Compute
 pub mod Falling
+pub mod Walking
+pub mod Tabled
+pub mod Struck
+pub mod Mapped
+pub mod Found
+pub mod Sharing
+pub mod Extents
 pub mod Dots
 pub mod Readings
 pub mod Steps

@@ -4,11 +4,13 @@ use mathlib.Core.Path.{_≡_}
 use mathlib.Core.Bool.{true, false}
 use mathlib.Core.List.{List, [], _∷_}
 use mathlib.Core.Logic.{_⊎_}
-use Rattle.fonts.specs.Strike.{viewOf, kerned}
-use Rattle.fonts.specs.Face.{Face, ownEntry, dummyEntry}
+use Rattle.fonts.specs.Strike.{viewOf, kerned, index}
+use Rattle.fonts.specs.Kinds.{ownEntry, dummyEntry}
+use Rattle.fonts.specs.Face.{Face}
 
 -- "PlainStrike files .. give the dummy no columns at all": its left edge is its right edge
 pub record NoBlob (ws : List ℕ) : Type 0 where
+  pub single : index (viewOf ws .header) ≡ false
   pub plain : kerned (viewOf ws .header) ≡ false
   pub bare : dummyEntry (viewOf ws) ws .left ≡ dummyEntry (viewOf ws) ws .right
 

@@ -1,65 +1,62 @@
--- What a font shows for a code: the paper's "The Strike files", its second half. Painting knows a font by its face alone.
+-- What a font shows for a code: the paper's "The Strike files", its second half, and P3. Painting knows a font by its face alone.
 use Prim.Native.Nat.{ℕ, _+_, _-_, _*_, _/_, _%_}
-use mathlib.Core.Bool.{Bool, true, false, cond, not, _&&_}
+use mathlib.Core.Bool.{Bool, cond, not, _&&_}
 use mathlib.Core.List.{List, []}
 use lib.Dec.{ltb, leb}
 use lib.ListN.{take, drop}
 use Rattle.words.specs.Word.{word, bitOf, wordOf}
 use Rattle.fonts.specs.declared.Header.{Header}
+use Rattle.fonts.specs.declared.Strike.{Strike}
 use Rattle.fonts.specs.declared.View.{View}
 use Rattle.fonts.specs.declared.Step.{Step}
 use Rattle.fonts.specs.declared.Entry.{Entry}
 use Rattle.fonts.specs.declared.Glyph.{Glyph}
-use Rattle.fonts.specs.Strike.{viewOf, codes, height, bitmapAt, pointersOf, widthsOf}
-use Rattle.fonts.specs.Entry.{entryAt, present, columnsOf, leftOf, advanceOf}
+use Rattle.fonts.specs.Strike.{viewOf, codes, height, strikeIn, pointersOf, widthsOf}
+use Rattle.fonts.specs.Entry.{nameIn, entryWith, present, columnsOf, leftOf, advanceOf}
 use Rattle.fonts.specs.Reading.{accepted}
 
--- a code from min to max whose own entry says that it exists
-unfoldable pub exists : Header → Entry → ℕ → Bool
-exists h own c = leb (h .min) c && leb c (h .max) && present h own
+-- a code from min to max
+unfoldable pub inRange : Header → ℕ → Bool
+inRange h c = leb (h .min) c && leb c (h .max)
 
--- "A code that doesn't exist, or lies outside min to max, is drawn as the dummy"
-unfoldable pub shown : Header → Entry → Entry → ℕ → Entry
-shown h own dummy c = cond (exists h own c) own dummy
-
--- what is drawn for a code, by its own entry and the dummy's; the dummy is "counted as one substitute"
-unfoldable pub glyphBy : View → Entry → Entry → ℕ → Glyph
-glyphBy v own dummy c =
-    let h = v .header in
-    let e = shown h own dummy c in
+-- what is shown by an entry whose picture is in this strike. "each body has its own ascent, and its rows are placed by that"
+unfoldable pub pictureOf : Header → Strike → Entry → Bool → Glyph
+pictureOf h s e substitute =
     record {
-      bitmap = bitmapAt h;
-      raster = v .body .raster;
+      bitmap = s .bitmap;
+      raster = s .body .raster;
       first = e .left;
       columns = columnsOf e;
-      ascent = v .body .ascent;
-      height = height (v .body);
+      ascent = s .body .ascent;
+      height = height (s .body);
       place = leftOf h e;
       advance = advanceOf h e;
-      substitute = not (exists h own c);
+      substitute = substitute;
     }
 
--- by the two tables: at a code's own place and at the dummy's
-abbrev pub glyphIn : View → List ℕ → List ℕ → ℕ → Glyph
-glyphIn v pointers widths c =
-    glyphBy v (entryAt pointers widths (c - v .header .min)) (entryAt pointers widths (codes (v .header))) c
+-- by the file, where it is known what each of its bodies is
+module _ (h : Header) (strikes : ℕ → Strike) (ws : List ℕ) where
+  -- k places past min's: "columns, ascent, rows come from the body; kerned offset and spacing from the code's own width entry"
+  unfoldable pub strikeNamed : ℕ → Strike
+  strikeNamed k = strikes (nameIn h ws k .body)
 
--- what the two tables of a font say of a code, and of the dummy: "Code max + 1 is the dummy", its entry is the last, n places past min's
-abbrev pub ownEntry : View → List ℕ → ℕ → Entry
-ownEntry v ws c = entryAt (pointersOf v ws) (widthsOf v ws) (c - v .header .min)
+  unfoldable pub entryIn : ℕ → Entry
+  entryIn k = entryWith (pointersOf (strikeNamed k) ws) (nameIn h ws k .code) (word (widthsOf h ws) k)
 
-abbrev pub dummyEntry : View → List ℕ → Entry
-dummyEntry v ws = entryAt (pointersOf v ws) (widthsOf v ws) (codes (v .header))
+  -- a code from min to max that exists
+  unfoldable pub exists : ℕ → Bool
+  exists c = inRange h c && present h (nameIn h ws (c - h .min) .missing) (entryIn (c - h .min))
+
+  -- "A code that doesn't exist, or lies outside min to max, is drawn as the dummy": "Code max + 1 is the dummy", n places past min's
+  unfoldable pub placeOfCode : ℕ → ℕ
+  placeOfCode c = cond (exists c) (c - h .min) (codes h)
+
+  -- what is drawn for a code; the dummy is "counted as one substitute"
+  unfoldable pub glyphBy : ℕ → Glyph
+  glyphBy c = let k = placeOfCode c in pictureOf h (strikeNamed k) (entryIn k) (not (exists c))
 
 unfoldable pub glyphFrom : View → List ℕ → ℕ → Glyph
-glyphFrom v ws c = glyphBy v (ownEntry v ws c) (dummyEntry v ws) c
-
--- the step of the pen over what is drawn for a code, by its own entry and the dummy's advance
-unfoldable pub stepBy : Header → Entry → ℕ → ℕ → Step
-stepBy h own dummy c =
-    cond (exists h own c)
-    (record { advance = advanceOf h own; substitute = false })
-    (record { advance = dummy; substitute = true })
+glyphFrom v ws c = glyphBy (v .header) (strikeIn v ws) ws c
 
 abbrev pub stepOf : Glyph → Step
 stepOf g = record { advance = g .advance; substitute = g .substitute }
@@ -89,9 +86,9 @@ unfoldable pub faceOf : List ℕ → Face
 faceOf ws = faceFrom (viewOf ws) ws
 
 -- "One row of a strike may be asked for: it is that part of the caller's own file. A refused font or a row at or past height
--- gives the empty part"
-unfoldable pub rowOf : List ℕ → ℕ → List ℕ
-rowOf ws r =
-    let v = viewOf ws in
-    let raster = v .body .raster in
-    cond (accepted ws && ltb r (height (v .body))) (take raster (drop (bitmapAt (v .header) + r * raster) ws)) []
+-- gives the empty part". P3: "A row call names a body; one not there gives the empty part"
+unfoldable pub rowOf : List ℕ → ℕ → ℕ → List ℕ
+rowOf ws k r =
+    let s = strikeIn (viewOf ws) ws k in
+    let raster = s .body .raster in
+    cond (accepted ws && ltb r (height (s .body))) (take raster (drop (s .bitmap + r * raster) ws)) []

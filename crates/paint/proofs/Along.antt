@@ -1,6 +1,7 @@
 -- The pen along a text, one character at a time.
 use Prim.Native.Nat.{ℕ, _+_, _-_, _*_, _<_, _≤_}
 use mathlib.Core.Path.{_≡_, sym, ap, ap₂, _∙_}
+use mathlib.Core.Bool.{false}
 use mathlib.Core.List.{List}
 use native.Mathlib.Numerals.{add-one}
 use native.Mathlib.Omega.{arith}
@@ -13,9 +14,10 @@ use mir.Facts.{toZ-ofZ}
 use Rattle.words.specs.Word.{wordsOf}
 use Rattle.fonts.specs.declared.View.{View}
 use Rattle.fonts.specs.declared.Step.{Step}
-use Rattle.fonts.specs.Strike.{codes}
+use Rattle.fonts.specs.Strike.{index, codes, firstStrike}
 use Rattle.fonts.specs.Entry.{entryAt, advanceOf}
-use Rattle.fonts.specs.Face.{faceFrom, stepBy}
+use Rattle.fonts.specs.Face.{faceFrom}
+use Rattle.fonts.specs.Kinds.{stepBy}
 use Rattle.fonts.proofs.Steps.{step-shown}
 use Rattle.fontbytes.specs.Parts.{pointerBytes, widthBytes, spelt}
 use Rattle.fontbytes.proofs.Spelt.{pointers-spelt, widths-spelt}
@@ -69,16 +71,16 @@ gone-near start pen i count begun short here gone =
 pub along-same : (f g : ℕ → Step) → ((c : ℕ) → f c ≡ g c) → (text : List ℕ) (pen : Pen) → penAlong f pen text ≡ penAlong g pen text
 along-same f g same text pen = λ i. penAlong (λ c. same c i) pen text
 
--- the steps by the tables in bytes are those over what the font shows
-pub spelt-steps : (v : View) (bytes pointers widths : List ℕ) (dummy : ℕ)
-    → pointers ≡ pointerBytes v bytes → widths ≡ widthBytes v bytes
+-- the steps by the tables in bytes are those over what a font without an index shows
+pub spelt-steps : (v : View) (bytes pointers widths : List ℕ) (dummy : ℕ) → index (v .header) ≡ false
+    → pointers ≡ pointerBytes (firstStrike v) bytes → widths ≡ widthBytes (v .header) bytes
     → dummy ≡ advanceOf (v .header) (spelt pointers widths (codes (v .header)))
     → (c : ℕ) → speltSteps (v .header) pointers widths dummy c ≡ stepsOf (faceFrom v (wordsOf bytes)) c
 unfolding faceFrom
-spelt-steps v bytes pointers widths dummy table entries moves c =
+spelt-steps v bytes pointers widths dummy single table entries moves c =
     let h = v .header in
-    let table-is = ap wordsOf table ∙ pointers-spelt v bytes in
-    let entries-are = ap wordsOf entries ∙ widths-spelt v bytes in
+    let table-is = ap wordsOf table ∙ pointers-spelt (firstStrike v) bytes in
+    let entries-are = ap wordsOf entries ∙ widths-spelt h bytes in
     ap (λ (n : ℕ). speltSteps h pointers widths n c) moves
     ∙ ap₂ (λ (p w : List ℕ). stepBy h (entryAt p w (c - h .min)) (advanceOf h (entryAt p w (codes h))) c) table-is entries-are
-    ∙ step-shown v (wordsOf bytes) c
+    ∙ step-shown v (wordsOf bytes) single c

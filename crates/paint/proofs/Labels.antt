@@ -2,10 +2,10 @@
 -- flip are altered each in its way.
 use Prim.Native.Nat.{ℕ, suc, _+_, _<_, _≤_}
 use mathlib.Core.Path.{_≡_, sym, ap, ap₂, _∙_}
+use mathlib.Core.Bool.{false}
 use mathlib.Core.List.{List, _∷_}
 use native.Mathlib.Numerals.{add-one}
 use native.Mathlib.Omega.{arith}
-use mathlib.Core.Bool.{Bool, true, false, cond}
 use lib.ListN.{length, getD, drop, drop-of-length-le}
 use lib.Seq.{drop-cons}
 use Rattle.words.specs.declared.Effect.{Effect}
@@ -14,8 +14,11 @@ use Rattle.words.proofs.Altering.{AllWords, altered-length, altered-idle, alter
 use Rattle.words.proofs.Clearing.{Carried, altered-over, cleared-over}
 use Rattle.fonts.specs.declared.Glyph.{Glyph}
 use Rattle.fonts.specs.declared.View.{View}
-use Rattle.fonts.specs.Strike.{kerned, bitmapAt, pointersOf, widthsOf}
-use Rattle.fonts.specs.Face.{Face, glyphBy, glyphIn, glyphFrom, faceFrom, stepOf}
+use Rattle.fonts.specs.Strike.{index, firstStrike, strikeIn, bitmapsOf, pointersOf, widthsOf}
+use Rattle.fonts.specs.Face.{Face, pictureOf, strikeNamed, glyphBy, glyphFrom, faceFrom, stepOf}
+use Rattle.fonts.specs.Kinds.{glyphIn, glyphTabled}
+use Rattle.fonts.proofs.Struck.{struck-glyph}
+use Rattle.fonts.proofs.Found.{first-in, found-same, bitmap-behind}
 use Rattle.paint.specs.declared.Shape.{Shape}
 use Rattle.paint.specs.declared.Stroke.{Stroke}
 use Rattle.paint.specs.declared.Pen.{Pen}
@@ -26,19 +29,24 @@ use Rattle.paint.specs.Pen.{penAfter, strokeWords, onPanel, pictureEffec
 -- ---- what a font shows for a code, by the tables that were made once for the text
 
 module _ (v : View) (font : List ℕ) where
-  pub found-glyph : (pointers widths : List ℕ) (code : ℕ) {c : ℕ} {g : Glyph} → g ≡ glyphIn v pointers widths code
-      → pointers ≡ pointersOf v font → widths ≡ widthsOf v font → code ≡ c → g ≡ faceFrom v font .glyph c
+  -- without an index by the pointers and the width entries
+  pub found-glyph : (pointers widths : List ℕ) (code : ℕ) {c : ℕ} {g : Glyph} → index (v .header) ≡ false
+      → g ≡ glyphIn v pointers widths code
+      → pointers ≡ pointersOf (firstStrike v) font → widths ≡ widthsOf (v .header) font → code ≡ c → g ≡ faceFrom v font .glyph c
   unfolding faceFrom glyphFrom
-  found-glyph pointers widths code shown p w is = shown ∙ (λ t. glyphIn v (p t) (w t) (is t))
+  found-glyph pointers widths code {c} single shown p w is =
+      shown ∙ (λ t. glyphIn v (p t) (w t) (is t)) ∙ sym (struck-glyph v (strikeIn v font) font single (first-in v font) c)
 
-  -- its bitmap begins behind the header
+  -- by the table of bitmaps
+  pub tabled-glyph : (bitmaps : List ℕ) (code : ℕ) {c : ℕ} {g : Glyph} → g ≡ glyphTabled v bitmaps font code
+      → bitmaps ≡ bitmapsOf (v .header) font → code ≡ c → g ≡ faceFrom v font .glyph c
+  unfolding faceFrom
+  tabled-glyph bitmaps code {c} shown table is = shown ∙ (λ t. glyphTabled v (table t) font (is t)) ∙ found-same v font c
+
+  -- its bitmap begins behind a body's head
   pub glyph-behind : (c : ℕ) → 1 ≤ faceFrom v font .glyph c .bitmap
-  unfolding faceFrom glyphFrom glyphBy bitmapAt
-  glyph-behind c = by-kind (kerned (v .header))
-    where
-      by-kind : (t : Bool) → 1 ≤ cond t 13 9
-      by-kind true = omega arith
-      by-kind false = omega arith
+  unfolding faceFrom glyphFrom glyphBy pictureOf strikeNamed
+  glyph-behind c = bitmap-behind v font _
 
 module _ {f : Effect → Effect} (way : Carried f) (face : Face) (k : Stroke) where
   -- lent words with a text on them, and with one picture

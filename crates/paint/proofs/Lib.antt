@@ -10,6 +10,7 @@ pub mod Edges
 pub mod Rows
 pub mod Reaching
 pub mod Labels
+pub mod Keeping
 pub mod InRow
 pub mod Slices
 pub mod Sizes

@@ -7,11 +7,13 @@ use lib.IntN.{ℤ}
 use Rattle.words.specs.declared.Effect.{Effect}
 use Rattle.words.specs.Word.{wordOf}
 use Rattle.words.specs.Place.{placeOf}
+use Rattle.words.specs.declared.Mode.the-variants.{Erase}
 use Rattle.words.specs.Effect.{identity, effectOf, joinOf, modeOf, altered}
 use Rattle.fonts.specs.declared.Glyph.{Glyph}
 use Rattle.fonts.specs.declared.Step.{Step}
 use Rattle.fonts.specs.declared.Header.{Header}
-use Rattle.fonts.specs.Face.{Face, stepBy, stepOf}
+use Rattle.fonts.specs.Face.{Face, stepOf}
+use Rattle.fonts.specs.Kinds.{stepBy}
 use Rattle.fontbytes.specs.Parts.{spelt}
 use Rattle.paint.specs.declared.Shape.{Shape}
 use Rattle.paint.specs.declared.Strip.{Strip}
@@ -78,6 +80,10 @@ strokeInRow s l row =
       y = placeOf (l .y) - row;
       mode = modeOf (l .mode);
     }
+
+-- the same by Erase
+unfoldable pub erasing : Stroke → Stroke
+erasing k = record { rowwords = k .rowwords; rows = k .rows; strip = k .strip; y = k .y; mode = Erase }
 
 -- the words of the panel under a stroke
 abbrev pub strokeWords : Stroke → ℕ

@@ -21,7 +21,7 @@ ghost use Rattle.fonts.specs.Face.{dotOf, faceFrom};
 ghost use Rattle.fontbytes.specs.File.{fileNumber};
 ghost use Rattle.paint.specs.Panel.{panelWords, stripOf, badShape, badPanel};
 ghost use Rattle.paint.specs.Pen.{penAt, penAfter, penAlong, speltSteps, stepsOf, farthest, Starting, Near};
-ghost use Rattle.paint.specs.Pen.{strokeOf, strokeInRow, strokeWords, Drawable};
+ghost use Rattle.paint.specs.Pen.{strokeOf, strokeInRow, erasing, strokeWords, Drawable};
 ghost use Rattle.paint.specs.Pen.{onPanel, pictureEffect, labelEffect};
 ghost use Rattle.paint.specs.Reach.{shared, fromColumn, uptoColumn, reachOver, reachOf, inFile, spansIn, twoWords, window};
 ghost use Rattle.paint.specs.Reach.{marked, rowDrawn, rowsDrawn, rowsKept, Nearby, Within};
@@ -156,6 +156,20 @@ impl Stroke {
         }
     }
 
+    // The same by Erase.
+    fn erasing(self) -> Stroke
+        ensures { λ r. ⌜ r ≡ erasing self ⌝ }
+    {
+        let strip = self.strip;
+        Stroke {
+            rowwords: self.rowwords,
+            rows: self.rows,
+            strip,
+            y: self.y,
+            mode: Mode::Erase,
+        }
+    }
+
     // For a panel that is one row of another: the row of the baseline counts from that row.
     fn in_row(s: Shape, l: Label, row: usize) -> Stroke
         ensures { λ r. ⌜ r ≡ strokeInRow s l row ⌝ }
@@ -237,10 +251,11 @@ fn pen_along(font: &[u16], v: View, start: Pen, text: &[u8]) -> Pen
     ensures { λ r. ⌜ r ≡ penAlong (stepsOf (faceFrom v (given font))) start (given text) ⌝ }
     ensures near { λ r. ⌜ Near r ⌝ }
 {
+    let bitmaps = fonts::bitmaps(font, v.header);
     let mut pen = start;
     let mut i = 0;
     while i < text.len() {
-        pen = pen.after(Glyph::of(font, v, code(text[i])).step());
+        pen = pen.after(Glyph::found(font, v, &bitmaps, code(text[i])).step());
         i += 1;
     }
     pen
@@ -269,14 +284,34 @@ fn pen_along_bytes(
     pen
 }
 
+// The pen after a text, by a font in bytes and where the bitmaps of its bodies begin.
+fn pen_along_map(font: &[u8], v: View, start: Pen, text: &[u8]) -> Pen
+    requires { ⌜ Starting start ⌝ }
+    requires { ⌜ length (now text) ≤ 64 ⌝ }
+    ensures { λ r. ⌜ r ≡ penAlong (stepsOf (faceFrom v (wordsOf (given font)))) start (given text) ⌝ }
+    ensures near { λ r. ⌜ Near r ⌝ }
+{
+    let bitmaps = fontbytes::bitmaps(font, v.header);
+    let mut pen = start;
+    let mut i = 0;
+    while i < text.len() {
+        pen = pen.after(fontbytes::found_step(font, v, &bitmaps, code(text[i])));
+        i += 1;
+    }
+    pen
+}
+
 fn last_pen_in_bytes(font: &[u8], v: View, x: i32, text: &[u8]) -> Pen
     requires { ⌜ length (now text) ≤ 64 ⌝ }
     ensures { λ r. ⌜ r ≡ lastPen (faceFrom v (wordsOf (given font))) x (given text) ⌝ }
     ensures near { λ r. ⌜ Near r ⌝ }
 {
     let h = v.header;
-    let pointers = fontbytes::pointers(font, v);
-    let widths = fontbytes::widths(font, v);
+    if h.index() {
+        return pen_along_map(font, v, Pen::at(x), text);
+    }
+    let pointers = fontbytes::pointers(font, v.first());
+    let widths = fontbytes::widths(font, h);
     let dummy = fontbytes::dummy_advance(h, pointers, widths);
     pen_along_bytes(h, pointers, widths, dummy, Pen::at(x), text)
 }
@@ -701,6 +736,61 @@ fn paint_picture(font: &[u16], g: Glyph, k: Stroke, pen: Pen, panel: &mut [u16])
     paint_other(font, reach, mode, panel);
 }
 
+// A picture of a font with an index that is not in one word a row, painted; or one that does not lie in the file.
+fn paint_far(font: &[u16], r: Reach, mode: u32, panel: &mut [u16])
+    requires { ⌜ Within r (length (now panel)) ⌝ }
+    requires { ⌜ spansIn r 0 (length (now font)) ≡ false ⌝ }
+    ensures { λ o. ⌜ after panel ≡ rowsDrawn (given font) r (modeOf mode) (r .rows) (given panel) ⌝ }
+{
+    if r.in_file(font.len()) {
+        draw_wide(font, r, mode, panel);
+        return;
+    }
+    draw_rows(font, r, mode, panel);
+}
+
+// A picture of a font with an index, as `paint_picture` paints one of a font without: the compiler makes each of them a part of the one
+// loop that calls it.
+fn paint_named(font: &[u16], g: Glyph, k: Stroke, pen: Pen, panel: &mut [u16])
+    requires { ⌜ Drawable k (length (now panel)) ⌝ }
+    requires { ⌜ (pen .place ≤ farthest) × (1 ≤ g .bitmap) ⌝ }
+    ensures { λ r. ⌜ after panel ≡ onPanel (pictureEffect (dotOf (given font)) k pen g) k (given panel) ⌝ }
+{
+    let reach = Reach::of(g, k, pen);
+    if reach.rows == 0 {
+        return;
+    }
+    let own = k.mode;
+    let mode = mode_number(own);
+    if reach.spans(0, font.len()) {
+        draw_narrow(font, reach, mode, panel);
+        return;
+    }
+    paint_far(font, reach, mode, panel);
+}
+
+// The characters of a text of a font with an index, in order, on the panel. Hands back the pen after the last. The bodies are walked over
+// once.
+fn paint_mapped(font: &[u16], v: View, k: Stroke, start: Pen, text: &[u8], panel: &mut [u16]) -> Pen
+    requires { ⌜ Drawable k (length (now panel)) ⌝ }
+    requires { ⌜ Starting start ⌝ }
+    requires { ⌜ length (now text) ≤ 64 ⌝ }
+    ensures { λ r. ⌜ r ≡ penAlong (stepsOf (faceFrom v (given font))) start (given text) ⌝ }
+    ensures near { λ r. ⌜ Near r ⌝ }
+    ensures panel { λ r. ⌜ after panel ≡ onPanel (labelEffect (faceFrom v (given font)) k start (given text)) k (given panel) ⌝ }
+{
+    let bitmaps = fonts::bitmaps(font, v.header);
+    let mut pen = start;
+    let mut i = 0;
+    while i < text.len() {
+        let g = Glyph::found(font, v, &bitmaps, code(text[i]));
+        paint_named(font, g, k, pen, panel);
+        pen = pen.after(g.step());
+        i += 1;
+    }
+    pen
+}
+
 // The characters of a text, in order, on the panel. Hands back the pen after the last.
 fn paint_text(font: &[u16], v: View, k: Stroke, start: Pen, text: &[u8], panel: &mut [u16]) -> Pen
     requires { ⌜ Drawable k (length (now panel)) ⌝ }
@@ -710,8 +800,11 @@ fn paint_text(font: &[u16], v: View, k: Stroke, start: Pen, text: &[u8], panel: 
     ensures near { λ r. ⌜ Near r ⌝ }
     ensures panel { λ r. ⌜ after panel ≡ onPanel (labelEffect (faceFrom v (given font)) k start (given text)) k (given panel) ⌝ }
 {
-    let pointers = fonts::pointers(font, v);
-    let widths = fonts::widths(font, v);
+    if v.header.index() {
+        return paint_mapped(font, v, k, start, text, panel);
+    }
+    let pointers = fonts::pointers(font, v.first());
+    let widths = fonts::widths(font, v.header);
     let mut pen = start;
     let mut i = 0;
     while i < text.len() {
@@ -934,6 +1027,43 @@ fn join_picture(font: &[u16], g: Glyph, k: Stroke, pen: Pen, keep: &mut [u16], f
     join_other(font, reach, mode, keep, flip);
 }
 
+// What a text of a font with an index does to the keep of a sheet: by Paint and Erase its dots are no longer kept, and Invert leaves it.
+fn keep_mapped(font: &[u16], v: View, k: Stroke, start: Pen, text: &[u8], keep: &mut [u16])
+    requires { ⌜ Drawable k (length (now keep)) ⌝ }
+    requires { ⌜ Starting start ⌝ }
+    requires { ⌜ length (now text) ≤ 64 ⌝ }
+    ensures { λ r. ⌜ after keep ≡ onPanel (cleared (labelEffect (faceFrom v (given font)) k start (given text))) k (given keep) ⌝ }
+{
+    let own = k.mode;
+    if 1 < mode_number(own) {
+        return;
+    }
+    paint_mapped(font, v, k.erasing(), start, text, keep);
+}
+
+// The characters of a text of a font with an index joined onto a sheet: flip changes as a panel does.
+fn join_mapped(
+    font: &[u16],
+    v: View,
+    k: Stroke,
+    start: Pen,
+    text: &[u8],
+    keep: &mut [u16],
+    flip: &mut [u16],
+) -> Pen
+    requires { ⌜ Drawable k (length (now keep)) ⌝ }
+    requires { ⌜ strokeWords k ≤ length (now flip) ⌝ }
+    requires { ⌜ Starting start ⌝ }
+    requires { ⌜ length (now text) ≤ 64 ⌝ }
+    ensures { λ r. ⌜ r ≡ penAlong (stepsOf (faceFrom v (given font))) start (given text) ⌝ }
+    ensures near { λ r. ⌜ Near r ⌝ }
+    ensures keep { λ r. ⌜ after keep ≡ onPanel (cleared (labelEffect (faceFrom v (given font)) k start (given text))) k (given keep) ⌝ }
+    ensures flip { λ r. ⌜ after flip ≡ onPanel (labelEffect (faceFrom v (given font)) k start (given text)) k (given flip) ⌝ }
+{
+    keep_mapped(font, v, k, start, text, keep);
+    paint_mapped(font, v, k, start, text, flip)
+}
+
 // The characters of a text, in order, joined onto a sheet. Hands back the pen after the last.
 fn join_text(
     font: &[u16],
@@ -953,8 +1083,11 @@ fn join_text(
     ensures keep { λ r. ⌜ after keep ≡ onPanel (cleared (labelEffect (faceFrom v (given font)) k start (given text))) k (given keep) ⌝ }
     ensures flip { λ r. ⌜ after flip ≡ onPanel (labelEffect (faceFrom v (given font)) k start (given text)) k (given flip) ⌝ }
 {
-    let pointers = fonts::pointers(font, v);
-    let widths = fonts::widths(font, v);
+    if v.header.index() {
+        return join_mapped(font, v, k, start, text, keep, flip);
+    }
+    let pointers = fonts::pointers(font, v.first());
+    let widths = fonts::widths(font, v.header);
     let mut pen = start;
     let mut i = 0;
     while i < text.len() {

@@ -83,7 +83,7 @@ dotsAnswer line font =
     ++ (valueBytes 4 (dotsOf font (glyphOf font (numberOf line 0)) (numberOf line 1) (numberOf line 2)) ++ (10 ∷ []))
 
 unfoldable pub rowAnswer : Line → List ℕ → List ℕ
-rowAnswer line font = nameBytes (line .command) ++ (listBytes 4 (rowOf font (numberOf line 0)) ++ (10 ∷ []))
+rowAnswer line font = nameBytes (line .command) ++ (listBytes 4 (rowOf font (numberOf line 0) (numberOf line 1)) ++ (10 ∷ []))
 
 unfoldable pub fontAnswer : Line → List ℕ → List ℕ
 fontAnswer line font =

@@ -100,7 +100,12 @@ fn row(line: Line, font: &[u16], text: &mut [u8; TEXT], at: usize) -> usize
     ensures { λ r. ⌜ Puts text at (rowAnswer line (given font)) r ⌝ }
 {
     let at = put_name(text, at, line.command);
-    let at = put_list(text, at, fonts::row(font, line.number(0) as usize), 4);
+    let at = put_list(
+        text,
+        at,
+        fonts::row(font, line.number(0) as usize, line.number(1) as usize),
+        4,
+    );
     put(text, at, b'\n')
 }
 

@@ -145,7 +145,7 @@ impl CountedPanel {
 
     fn any_call(&self, random: &mut Random) -> Call {
         let mut call = good_call(random, self.shape, &self.font);
-        if random.one_in(3) {
+        if random.one_in(2) {
             invert_twice(&mut call);
         }
         if random.one_in(5) {

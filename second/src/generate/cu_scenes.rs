@@ -121,6 +121,7 @@ fn font_of_written(words: Vec<u16>) -> MadeFont {
         max: number(2),
         ascent: number(9),
         height: number(9) + number(10),
+        body_heights: vec![number(9) + number(10)],
         left: signed(words[4]),
         words,
     }

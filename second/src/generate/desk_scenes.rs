@@ -1,6 +1,6 @@
 //! Scenes for the desk's calls, which are handed the bytes of a font.
 
-use super::font_files::{any_font, good_font, refused_font, MadeFont};
+use super::font_files::{any_font, any_index, good_font, refused_font, MadeFont};
 use super::label_calls::{random_label, random_x};
 use super::random::Random;
 use super::scene::Scene;
@@ -43,6 +43,7 @@ fn desk_file(random: &mut Random, case: usize, turn: usize) -> (MadeFont, Vec<u8
     let font = match case {
         0 => refused_font(random, turn),
         1 | 2 => any_font(random, turn),
+        5 => any_index(random, turn),
         _ => good_font(random),
     };
     let mut bytes = bytes_from_words(&font.words);
@@ -60,7 +61,7 @@ fn random_bytes(random: &mut Random) -> Vec<u8> {
     let length = random.below(80);
     let mut bytes: Vec<u8> = (0..length).map(|_| random.byte()).collect();
     if length >= 2 && random.one_in(2) {
-        (bytes[0], bytes[1]) = (random.pick(&[0x80, 0x90, 0xA0, 0xB0]), 0);
+        (bytes[0], bytes[1]) = (random.pick(&[0x80, 0x90, 0xA0, 0xB0, 0xC0, 0xD0]), 0);
     }
     bytes
 }

@@ -1,13 +1,19 @@
 //! Font files: good ones, ones at a limit and one past it, and damaged ones.
 
 mod damage;
+mod index;
 mod limits;
 mod parts;
 
 use super::random::Random;
 use damage::{damage_format, edge_word, last_pointer_past_the_raster, DAMAGES};
+use index::{index_of_too_many_bodies, index_without_a_picture};
 use limits::{kerned_without_dummy, plain_without_blob, LIMITS};
 use parts::{good_parts, overlapping_parts};
+
+#[cfg(test)]
+pub use index::index_wrong_from;
+pub use index::{any_index, good_index, refused_index};
 
 /// The words of a font and the numbers that calls on it are aimed by. A damaged font keeps
 /// the numbers of the good one that it was.
@@ -15,8 +21,11 @@ pub struct MadeFont {
     pub words: Vec<u16>,
     pub min: i64,
     pub max: i64,
+    /// Of one of the bodies.
     pub ascent: i64,
     pub height: i64,
+    /// The heights of all bodies; a strike has one.
+    pub body_heights: Vec<i64>,
     /// FBBox, or 0 for a plain font: where pictures lie beside the pen.
     pub left: i64,
 }
@@ -30,15 +39,17 @@ pub fn any_font(random: &mut Random, number: usize) -> MadeFont {
         2 => damaged_often(random),
         3 => wrongly_long(random, turn),
         4 => with_a_random_word(random),
+        5 => any_index(random, turn),
         _ => good_font(random),
     }
 }
 
+/// Of all four kinds.
 pub fn good_font(random: &mut Random) -> MadeFont {
-    if random.one_in(4) {
-        overlapping_font(random)
-    } else {
-        good_parts(random).made()
+    match random.below(16) {
+        0..=3 => good_index(random),
+        4..=6 => overlapping_font(random),
+        _ => good_parts(random).made(),
     }
 }
 
@@ -52,10 +63,10 @@ pub fn font_without_blob(random: &mut Random) -> MadeFont {
     plain_without_blob(random).made()
 }
 
-/// A font that is refused for each of 1 to 7 in turn.
+/// A font that is refused for each of 1 to 7, 15 and 16 in turn.
 pub fn refused_font(random: &mut Random, turn: usize) -> MadeFont {
     let mut parts = good_parts(random);
-    match turn % 8 {
+    match turn % 11 {
         0 => return cut_to(parts.made(), random.below(9)),
         1 => damage_format(random, &mut parts),
         2 => parts.max = 256,
@@ -63,6 +74,9 @@ pub fn refused_font(random: &mut Random, turn: usize) -> MadeFont {
         4 => parts.length = parts.length.wrapping_add(1),
         5 => last_pointer_past_the_raster(random, &mut parts),
         6 => return kerned_without_dummy(random).made(),
+        7 => return index_of_too_many_bodies(random),
+        8 => return index_without_a_picture(random),
+        9 => return refused_index(random, turn / 11),
         _ => return damaged_often(random),
     }
     parts.made()

@@ -33,17 +33,27 @@ pub fn ask_for_pictures(random: &mut Random, font: &MadeFont, scene: &mut Scene)
         let code = random_code(random, font);
         scene.line(format!("glyph {code}"));
         for _ in 0..2 {
-            let row = random_row(random, font);
+            let row = random_row(random, font.height);
             let column = random_column(random);
             scene.line(format!("dots {code} {row} {column}"));
         }
     }
 }
 
-fn ask_for_rows(random: &mut Random, font: &MadeFont, scene: &mut Scene) {
-    let height = font.height;
-    for row in [height - 1, height, random_row(random, font)] {
-        scene.line(format!("row {}", row.max(0)));
+/// The last row of a body, the one past it and a random one, and a row of a body that is not there.
+pub fn ask_for_rows(random: &mut Random, font: &MadeFont, scene: &mut Scene) {
+    let bodies = font.body_heights.len();
+    for _ in 0..bodies.min(2) {
+        let body = random.below(bodies);
+        let height = font.body_heights[body];
+        for row in [height - 1, height, random_row(random, height)] {
+            scene.line(format!("row {body} {}", row.max(0)));
+        }
+    }
+    if random.one_in(3) {
+        let past = bodies as i64;
+        let body = random.pick(&[past, past, past + 1, 128, 256, 65_536, 4_294_967_295]);
+        scene.line(format!("row {body} 0"));
     }
 }
 
@@ -62,8 +72,8 @@ fn random_code(random: &mut Random, font: &MadeFont) -> i64 {
     }
 }
 
-fn random_row(random: &mut Random, font: &MadeFont) -> i64 {
-    let height = font.height.max(1);
+fn random_row(random: &mut Random, height: i64) -> i64 {
+    let height = height.max(1);
     match random.below(10) {
         0 => height - 1,
         1 => height,

@@ -72,6 +72,7 @@ fn aimed(bytes: &[u8]) -> MadeFont {
         max: number(2),
         ascent: number(9),
         height: number(9) + number(10),
+        body_heights: vec![number(9) + number(10)],
         left: 0,
         words,
     }

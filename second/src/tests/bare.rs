@@ -47,7 +47,7 @@ fn pen(x: i64, substitutes: i64) -> Result<Pen, Refused> {
 #[test]
 fn it_is_read() {
     assert!(read(&BARE).is_ok());
-    assert_eq!(strike_row(&BARE, 2), [0xB780]);
+    assert_eq!(strike_row(&BARE, 0, 2), [0xB780]);
 }
 
 #[test]
@@ -96,10 +96,10 @@ fn a_kerned_dummy_without_columns_moves_the_pen_by_its_spacing() {
     assert_eq!(panel, [0xA5A5; 24]);
 }
 
-/// In a plain file the last two words are the dummy's edges.
+/// In a plain strike the last two words are the dummy's edges.
 fn is_bare(font: &[u16]) -> bool {
     match font {
-        [format, .., left, right] => format & 0x1000 == 0 && left == right,
+        [format, .., left, right] => format & 0x5000 == 0 && left == right,
         _ => false,
     }
 }
@@ -145,7 +145,7 @@ fn absent_codes_among_others_only_count() {
 /// How many label calls of a list have such a font and a code that it does not have.
 fn blank_substitutes(kind: Kind) -> usize {
     let (mut font, mut blank) = (Vec::new(), 0);
-    for line in generated(kind, 1980, 1_000).lines() {
+    for line in generated(kind, 1980, 1_500).lines() {
         let (label, x) = match parse(line).unwrap() {
             Some(Command::SetWords(Register::Font, words)) => {
                 font = words;

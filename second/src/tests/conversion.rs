@@ -68,10 +68,10 @@ fn sorted(mut dots: Vec<(i64, i64)>) -> Vec<(i64, i64)> {
 fn dots_shown(font: &Font, code: i64) -> Vec<(i64, i64)> {
     let glyph = font.glyph(code);
     let mut dots = Vec::new();
-    for row in 0..font.height() {
+    for row in 0..glyph.height() {
         for column in 0..glyph.columns {
-            if font.dot(&glyph, row, column) {
-                dots.push((glyph.place + column, font.ascent() - 1 - row));
+            if glyph.dot(row, column) {
+                dots.push((glyph.place + column, glyph.ascent() - 1 - row));
             }
         }
     }
@@ -118,8 +118,9 @@ fn compare_box(written: &[u16], font: &Font, dots: &[(i64, i64)]) {
     let [left, right, bottom, top] = least_box(dots);
     let box_words = [left, bottom, right - left + 1, top - bottom + 1];
     assert_eq!(written[4..8], box_words.map(|number| number as i16 as u16));
-    assert_eq!(font.ascent(), top + 1);
-    assert_eq!(font.height(), top - bottom + 1);
+    let dummy = font.glyph(256);
+    assert_eq!(dummy.ascent(), top + 1);
+    assert_eq!(dummy.height(), top - bottom + 1);
     assert_eq!(dots_shown(font, 256), filled_box(dots));
 }
 

@@ -41,10 +41,12 @@ fn a_seed_makes_one_list() {
 fn every_refusal_appears_and_no_other() {
     let counts = [
         (Kind::Fonts, 800),
+        (Kind::Indexes, 500),
         (Kind::Labels, 2_000),
         (Kind::Sheets, 600),
         (Kind::Counts, 1_000),
         (Kind::Cu, 1_200),
+        (Kind::Desk, 800),
     ];
     let answers: String = counts
         .iter()
@@ -52,11 +54,11 @@ fn every_refusal_appears_and_no_other() {
         .collect();
     let coverage = Coverage::of(answers.as_bytes()).unwrap();
     let expected: [(&str, &[u32]); 14] = [
-        ("check", &[0, 1, 2, 3, 4, 5, 6, 7]),
-        ("measure", &[0, 1, 2, 3, 4, 5, 6, 7, 10, 11]),
-        ("paint", &[0, 1, 2, 3, 4, 5, 6, 7, 8, 9, 10, 11, 12]),
+        ("check", &OF_A_FONT),
+        ("measure", &[0, 1, 2, 3, 4, 5, 6, 7, 10, 11, 15, 16]),
+        ("paint", &OF_PAINTING),
         ("paintlit", &OF_PAINTING_LIT),
-        ("gather", &[0, 1, 2, 3, 4, 5, 6, 7, 8, 9, 10, 11, 12]),
+        ("gather", &OF_PAINTING),
         ("fresh", &[0, 8]),
         ("join", &[0, 8]),
         ("apply", &[0, 8]),
@@ -65,15 +67,51 @@ fn every_refusal_appears_and_no_other() {
         // No offset is over 255, for a raster has at most 256 columns.
         ("convert", &[0, 20, 21, 22, 23, 24, 26, 27]),
         ("program", &[0, 14, 20, 21, 22, 23, 24, 26, 27]),
-        ("deskcheck", &[0, 1, 2, 3, 4, 5, 6, 7, 14]),
-        ("deskmeasure", &[0, 1, 2, 3, 4, 5, 6, 7, 10, 11, 14]),
+        ("deskcheck", &OF_A_FILE),
+        ("deskmeasure", &OF_A_FILE_AND_LABEL),
     ];
     for (kind, numbers) in expected {
         assert_eq!(coverage.numbers(kind), numbers, "{kind}");
     }
 }
 
-const OF_PAINTING_LIT: [u32; 14] = [0, 1, 2, 3, 4, 5, 6, 7, 8, 9, 10, 11, 12, 30];
+const OF_A_FONT: [u32; 10] = [0, 1, 2, 3, 4, 5, 6, 7, 15, 16];
+const OF_A_FILE: [u32; 11] = [0, 1, 2, 3, 4, 5, 6, 7, 14, 15, 16];
+const OF_A_FILE_AND_LABEL: [u32; 13] = [0, 1, 2, 3, 4, 5, 6, 7, 10, 11, 14, 15, 16];
+const OF_PAINTING: [u32; 15] = [0, 1, 2, 3, 4, 5, 6, 7, 8, 9, 10, 11, 12, 15, 16];
+const OF_PAINTING_LIT: [u32; 16] = [0, 1, 2, 3, 4, 5, 6, 7, 8, 9, 10, 11, 12, 15, 16, 30];
+
+/// Each kind of list by itself has fonts that are refused for each number.
+#[test]
+fn every_refusal_of_a_font_appears_in_each_kind_with_fonts() {
+    let kinds = [
+        (Kind::Fonts, "check"),
+        (Kind::Indexes, "check"),
+        (Kind::Labels, "paint"),
+        (Kind::Sheets, "gather"),
+        (Kind::Counts, "paintlit"),
+        (Kind::Desk, "deskcheck"),
+    ];
+    for (kind, call) in kinds {
+        let answers = answers_to(&generated(kind, 1980, 1_500)).unwrap();
+        let coverage = Coverage::of(answers.as_bytes()).unwrap();
+        let numbers = coverage.numbers(call);
+        for number in OF_A_FONT {
+            assert!(numbers.contains(&number), "{kind:?}: {call} {number}");
+        }
+    }
+}
+
+/// Of the refusals of an index each is given often.
+#[test]
+fn index_files_are_refused_often_for_each_number() {
+    let answers = answers_to(&generated(Kind::Indexes, 1980, 1_000)).unwrap();
+    for number in OF_A_FONT {
+        let answer = format!("check {number}");
+        let given = answers.lines().filter(|&line| line == answer).count();
+        assert!(given >= 15, "{answer}: {given}");
+    }
+}
 
 #[test]
 fn every_refusal_of_calls_with_counts_appears_and_no_other() {
@@ -103,10 +141,8 @@ fn every_refusal_of_a_conversion_appears_and_no_other() {
 fn every_refusal_of_the_desk_appears_and_no_other() {
     let answers = answers_to(&generated(Kind::Desk, 1980, 1_000)).unwrap();
     let coverage = Coverage::of(answers.as_bytes()).unwrap();
-    let of_a_font = [0, 1, 2, 3, 4, 5, 6, 7, 14];
-    assert_eq!(coverage.numbers("deskcheck"), of_a_font);
-    let of_a_label = [0, 1, 2, 3, 4, 5, 6, 7, 10, 11, 14];
-    assert_eq!(coverage.numbers("deskmeasure"), of_a_label);
+    assert_eq!(coverage.numbers("deskcheck"), OF_A_FILE);
+    assert_eq!(coverage.numbers("deskmeasure"), OF_A_FILE_AND_LABEL);
     assert_eq!(coverage.numbers("words"), [0, 14, 27]);
     let others = KINDS.iter().filter(|name| !name.starts_with("desk"));
     for name in others.filter(|&&name| name != "words") {

@@ -26,7 +26,7 @@ fn runs_are_joined_and_spelled_once() {
 
 #[test]
 fn an_answer_without_words_ends_behind_its_name() {
-    let list = "show out\nrow 0\nprogram\n";
+    let list = "show out\nrow 0 0\nprogram\n";
     assert_eq!(answers_to(list).unwrap(), "out\nrow\nprogram 20\n");
 }
 
@@ -62,6 +62,10 @@ fn lists_that_break_the_rules() {
         "check \n",
         "check 1\n",
         "glyph -1\n",
+        "row 0\n",
+        "row 0 -1\n",
+        "row 0 0 0\n",
+        "row 4294967296 0\n",
         "glyph 4294967296\n",
         "glyph +1\n",
         "glyph  1\n",
@@ -98,7 +102,8 @@ fn the_greatest_numbers_are_answered() {
     let list = "font 8000 0000 0000 0001 0009 0001 0000 0000 0001 8000 0000 0001 0002\n\
                 glyph 4294967295\n\
                 dots 4294967295 4294967295 4294967295\n\
-                row 4294967295\n\
+                row 4294967295 0\n\
+                row 0 4294967295\n\
                 measure -2147483648\n\
                 paint 4294967295 4294967295 4294967295 4294967295 2147483647 -2147483648 4294967295\n\
                 fresh 1 4294967295 4294967295 4294967295\n\
@@ -107,7 +112,7 @@ fn the_greatest_numbers_are_answered() {
                 paintlit 4294967295 4294967295 4294967295 4294967295 2147483647 -2147483648 4294967295\n\
                 applylit 2 4294967295 4294967295 4294967295\n\
                 clear 4294967295 4294967295 4294967295\n";
-    let answers = "glyph 0 1 0 1 1 1 1\ndots 0 0000\nrow\nmeasure 10 0 0\npaint 8 0 0\n\
+    let answers = "glyph 0 1 0 1 1 1 1\ndots 0 0000\nrow\nrow\nmeasure 10 0 0\npaint 8 0 0\n\
                    fresh 8\njoin 8\napply 8\npaintlit 8 0 0\napplylit 8\nclear 8\n";
     assert_eq!(answers_to(list).unwrap(), answers);
 }

@@ -201,10 +201,11 @@ fn an_empty_cu_list() {
 
 #[test]
 fn rows_of_the_strike() {
-    assert_eq!(strike_row(&FONT, 1), [0xBF00]);
-    assert_eq!(strike_row(&FONT, 2), [0x1F00]);
-    assert!(strike_row(&FONT, 3).is_empty());
-    assert!(strike_row(&FONT[..26], 0).is_empty());
+    assert_eq!(strike_row(&FONT, 0, 1), [0xBF00]);
+    assert_eq!(strike_row(&FONT, 0, 2), [0x1F00]);
+    assert!(strike_row(&FONT, 0, 3).is_empty());
+    assert!(strike_row(&FONT, 1, 0).is_empty());
+    assert!(strike_row(&FONT[..26], 0, 0).is_empty());
 }
 
 #[test]

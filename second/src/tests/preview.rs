@@ -341,7 +341,7 @@ fn every_reply_appears_and_no_other() {
         "line codes shown as the dummy: more",
     ];
     let expected = [
-        refused("font", &[1, 2, 3, 4, 5, 6, 7, 14]),
+        refused("font", &[1, 2, 3, 4, 5, 6, 7, 14, 15, 16]),
         refused("panel", &[8]),
         refused("line", &[9, 10, 11, 12]),
         others.map(str::to_string).to_vec(),

@@ -39,7 +39,7 @@ module _ (r : tie.After-reached Inv-loop μ-loop) where
       let same = r .reached .ensures in
       let first = ap (λ (t : Rows). t .first) same in
       let count = ap (λ (t : Rows). t .count) same in
-      let below = reached-below (call .args .v) (call .args .s) (call .args .l) in
+      let below = reached-below (call .args .v) (now (call .args .font)) (call .args .s) (call .args .l) in
       omega (arith, first, count, below)
 
   few : call .args .s .rows ≤ 256

@@ -66,11 +66,11 @@ module _ (r : tie.After-reached) where
       let same = r .reached .ensures in
       let first = ap (λ (t : Rows). t .first) same in
       let count = ap (λ (t : Rows). t .count) same in
-      let low = reached-below v s l in
+      let low = reached-below v font s l in
       omega (arith, first, count, low)
 
   -- the lit dots of the strip in these rows, of any panel
-  rows-are : (p : List ℕ) → litIn s (l .strip) (r .reached .result .first) (r .reached .result .count) p ≡ litReached v s l p
+  rows-are : (p : List ℕ) → litIn s (l .strip) (r .reached .result .first) (r .reached .result .count) p ≡ litReached v font s l p
   unfolding litReached
   rows-are p = ap (λ (t : Rows). litIn s (l .strip) (t .first) (t .count) p) (r .reached .ensures)
 
@@ -88,16 +88,17 @@ module _ (d : tie.After-refuses) where
   held-is : d .before .before .before .before .count-of .result ≡ word (counts known) (l known .strip)
   held-is = d .before .before .before .before .count-of .ensures
 
-  were-is : d .before .before .lit-in .result ≡ litReached (v known) (s known) (l known) (panel known)
+  were-is : d .before .before .lit-in .result ≡ litReached (v known) (font known) (s known) (l known) (panel known)
   were-is = d .before .before .lit-in .ensures .0 ∙ rows-are known (panel known)
 
   told : d .refuses .result
       ≡ leaves (s known .width * s known .rows) (word (counts known) (l known .strip))
-      (litReached (v known) (s known) (l known) (after known))
-      (litReached (v known) (s known) (l known) (panel known))
+      (litReached (v known) (font known) (s known) (l known) (after known))
+      (litReached (v known) (font known) (s known) (l known) (panel known))
   told =
       d .refuses .ensures
-      ∙ ap₂ (λ (held were : ℕ). leaves (s known .width * s known .rows) held (litReached (v known) (s known) (l known) (after known)) were)
+      ∙ ap₂ (λ (held were : ℕ). leaves (s known .width * s known .rows) held
+      (litReached (v known) (font known) (s known) (l known) (after known)) were)
       held-is were-is
 
 reached-requires : tie.Need-reached-requires
@@ -152,10 +153,11 @@ module _ (q : tie.After-lit-in2) where
   abbrev painted : tie.After-paint-label
   painted = q .before .before .before .before
 
-  left-is : q .lit-in2 .result ≡ litReached (v (begun painted)) (s (begun painted)) (l (begun painted)) (after (begun painted))
+  left-is : q .lit-in2 .result
+      ≡ litReached (v (begun painted)) (font (begun painted)) (s (begun painted)) (l (begun painted)) (after (begun painted))
   left-is =
       let r = begun painted in
-      q .lit-in2 .ensures .0 ∙ rows-are r _ ∙ ap (litReached (v r) (s r) (l r)) (painted .paint-label .ensures .1 .0)
+      q .lit-in2 .ensures .0 ∙ rows-are r _ ∙ ap (litReached (v r) (font r) (s r) (l r)) (painted .paint-label .ensures .1 .0)
 
   -- so it moves within what it may be
   stays : leaves (s (begun painted) .width * s (begun painted) .rows) (decided painted .before .before .before .before .count-of .result)

@@ -22,7 +22,7 @@ module _ (r : tie.After-reached) where
   abbrev call : tie.Start
   call = r .before .before .before .before
 
-  count-is : r .reached .result .count ≡ rowsReached (call .args .v) (call .args .s) (call .args .l) .count
+  count-is : r .reached .result .count ≡ rowsReached (call .args .v) (now (call .args .font)) (call .args .s) (call .args .l) .count
   count-is = ap (λ (t : Rows). t .count) (r .reached .ensures)
 
   abbrev left : ℕ
@@ -36,7 +36,7 @@ reached-requires c κs = search needs
 sure-requires : tie.Need-sure-requires
 sure-requires c κs =
     let a = call c .args in
-    let below = reached-below (a .v) (a .s) (a .l) in
+    let below = reached-below (a .v) (now (a .font)) (a .s) (a .l) in
     let low = good-panel (a .s) (length (now (a .panel))) (panel-good (a .s) _ (a .l) (length (now (a .text))) (sym (call c .pre))) .low in
     omega (arith, count-is c, below, low)
 
@@ -44,7 +44,8 @@ returns : tie.Need-returns
 returns c =
     let r = c .before .before in
     let a = call r .args in
-    let most : left r ≤ a .s .width * rowsReached (a .v) (a .s) (a .l) .count = reached-most (a .v) (a .s) (a .l) _ in
+    let most : left r ≤ a .s .width * rowsReached (a .v) (now (a .font)) (a .s) (a .l) .count =
+    reached-most (a .v) (now (a .font)) (a .s) (a .l) _ in
     let same = ap (λ (n : ℕ). a .s .width * n) (count-is r) in
     let few : left r ≤ a .s .width * r .reached .result .count = omega (arith, same, most) in
     sym (c .before .sure .ensures (c .if1 .taken) (left r) few)

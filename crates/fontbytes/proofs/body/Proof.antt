@@ -1,6 +1,5 @@
 -- `fontbytes::body` meets its contract, word by word.
 -- Assumes nothing.
-use native.Mathlib.Omega.{arith}
 use Rattle.fonts.specs.Strike.{bodyOf}
 use borrow.Author.Needs.{needs}
 use Rattle.fontbytes.proofs.body.Statement.{statement}

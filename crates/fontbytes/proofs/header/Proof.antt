@@ -17,6 +17,12 @@ word-in-requires-3 c κs = search needs
 word-in-requires-4 : tie.Need-word-in-requires-4
 word-in-requires-4 c κs = search needs
 
+count-at-requires : tie.Need-count-at-requires
+count-at-requires c κs = search needs
+
+word-in-requires-5 : tie.Need-word-in-requires-5
+word-in-requires-5 c κs = search needs
+
 by-requires : tie.Need-by-requires
 by-requires c κs = search needs
 
@@ -32,5 +38,7 @@ header-spec =
     word-in-requires-2
     word-in-requires-3
     word-in-requires-4
+    count-at-requires
+    word-in-requires-5
     by-requires
     returns)

@@ -1,70 +1,54 @@
--- `fontbytes::number_by` meets its contract: the two stages are the definition's, on the words that the bytes spell.
+-- `fontbytes::number_by` meets its contract: its stages are the definition's, on the words that the bytes spell.
 -- Assumes nothing.
 use mathlib.Core.Path.{_≡_, sym, ap, _∙_}
-use lib.ListN.{length}
 use denote.Ref.{now}
+use lib.ListN.{length}
 use Rattle.words.specs.Word.{wordsOf}
 use Rattle.words.proofs.Bytes.{words-length}
+use Rattle.fonts.specs.Reading.{frontNumber, numberBy}
 use Rattle.words.proofs.Chain.{stage-stops, stage-goes-on}
-use Rattle.fonts.specs.Reading.{headNumber, numberBy}
-use Rattle.fontbytes.proofs.Spelt.{pointers-spelt, widths-spelt}
 use borrow.Author.Needs.{needs}
 use Rattle.fontbytes.proofs.number_by.Statement.{statement}
 use Rattle.fontbytes.proofs.number_by.Tie as tie
 
-head-is : (c : tie.After-head-number)
-    → c .head-number .result ≡ headNumber (c .before .before .args .v) (length (wordsOf (now (c .before .before .args .font))))
-head-is c =
+front-is : (c : tie.After-front-number)
+    → c .front-number .result ≡ frontNumber (c .before .before .args .h) (length (wordsOf (now (c .before .before .args .font))))
+front-is c =
     let a = c .before .before .args in
-    c .head-number .ensures ∙ ap (headNumber (a .v)) (sym (words-length (now (a .font))))
+    c .front-number .ensures ∙ ap (frontNumber (a .h)) (sym (words-length (now (a .font))))
 
-head-number-requires : tie.Need-head-number-requires
-head-number-requires c κs = search needs
+front-number-requires : tie.Need-front-number-requires
+front-number-requires c κs = search needs
 
 returns : tie.Need-returns
 unfolding numberBy
-returns c = stage-stops _ _ _ (head-is (c .before)) (c .if1 .taken)
+returns c = stage-stops _ _ _ (front-is (c .before)) (c .if1 .taken)
 
-pointers-requires : tie.Need-pointers-requires
-pointers-requires c κs = search needs
-
-widths-requires : tie.Need-widths-requires
-widths-requires c κs = search needs
-
-codes-requires : tie.Need-codes-requires
-codes-requires c κs = search needs
-
-entry-requires : tie.Need-entry-requires
-entry-requires c κs = search needs
-
-falls-requires : tie.Need-falls-requires
-falls-requires c κs = search needs
-
-table-number-requires : tie.Need-table-number-requires
-table-number-requires c κs = search needs
+bodies-number-requires : tie.Need-bodies-number-requires
+bodies-number-requires c κs = search needs
 
 returns-2 : tie.Need-returns-2
 unfolding numberBy
 returns-2 c =
-    let listed = c .before .before .before .before in
-    let found = listed .before in
-    let tested = found .before .before in
-    let v = tested .before .before .args .v in
-    let bytes = now (tested .before .before .args .font) in
-    let table = ap wordsOf (found .pointers .ensures) ∙ pointers-spelt v bytes in
-    let entries = ap wordsOf (listed .widths .ensures) ∙ widths-spelt v bytes in
-    stage-goes-on _ _ _ _ (head-is tested) (found .before .if1 .left) (cc)
+    stage-goes-on _ _ _ _ (front-is (c .before .before .before)) (c .before .before .if1 .left)
+    (stage-stops _ _ _ (c .before .bodies-number .ensures) (c .if2 .taken))
+
+table-number-requires : tie.Need-table-number-requires
+table-number-requires c κs = search needs
+
+returns-3 : tie.Need-returns-3
+unfolding numberBy
+returns-3 c =
+    stage-goes-on _ _ _ _ (front-is (c .before .before .before .before)) (c .before .before .before .if1 .left)
+    (stage-goes-on _ _ _ _ (c .before .before .bodies-number .ensures) (c .before .if2 .left) (c .table-number .ensures))
 
 pub number-by-spec : {M : Type 1} → statement M
 number-by-spec =
     tie.close
     (tie.spec
-    head-number-requires
+    front-number-requires
     returns
-    pointers-requires
-    widths-requires
-    codes-requires
-    entry-requires
-    falls-requires
+    bodies-number-requires
+    returns-2
     table-number-requires
-    returns-2)
+    returns-3)

@@ -8,11 +8,11 @@ use Rattle.fontbytes.proofs.pointers.Tie as tie
 pointers-at-requires : tie.Need-pointers-at-requires
 pointers-at-requires c κs = search needs
 
-codes-requires : tie.Need-codes-requires
-codes-requires c κs = search needs
+pointers-requires : tie.Need-pointers-requires
+pointers-requires c κs = search needs
 
-add-part-in : tie.Need-add-part-in
-add-part-in c = search needs
+cast-part-in : tie.Need-cast-part-in
+cast-part-in c = search needs
 
 part-in-requires : tie.Need-part-in-requires
 part-in-requires c κs = search needs
@@ -23,4 +23,5 @@ returns c = cc
 
 pub pointers-spec : {M : Type 1} → statement M
 pointers-spec =
-    tie.close (tie.spec pointers-at-requires codes-requires add-part-in part-in-requires returns)
+    tie.close
+    (tie.spec pointers-at-requires pointers-requires cast-part-in part-in-requires returns)

@@ -5,6 +5,7 @@ use mathlib.Core.Path.{_≡_, ap, _∙_}
 use mathlib.Core.List.{List}
 use denote.Ref.{now}
 use Rattle.words.specs.Word.{wordsOf}
+use Rattle.fonts.specs.Strike.{viewOf}
 use Rattle.fonts.specs.Reading.{numberBy, fontNumber, readingFor}
 use Rattle.fonts.specs.declared.View.{View}
 use Rattle.fonts.specs.declared.Reading.the-variants.{Accepted, Refused}
@@ -18,8 +19,8 @@ abbrev words-of : tie.After-number-by → List ℕ
 words-of c = wordsOf (now (c .before .before .before .args .font))
 
 number-is : (c : tie.After-number-by) → c .number-by .result ≡ fontNumber (words-of c)
-unfolding fontNumber
-number-is c = c .number-by .ensures ∙ ap (λ (v : View). numberBy v (words-of c)) (c .before .view .ensures)
+unfolding fontNumber viewOf
+number-is c = c .number-by .ensures ∙ ap (λ (v : View). numberBy (v .header) (words-of c)) (c .before .view .ensures)
 
 view-requires : tie.Need-view-requires
 view-requires c κs = search needs

@@ -4,7 +4,7 @@ use mathlib.Core.Path.{ap, _∙_}
 use denote.Ref.{now}
 use Prim.Native.Nat.{ℕ}
 use Rattle.fonts.specs.declared.Entry.{Entry}
-use Rattle.fonts.specs.Face.{stepBy}
+use Rattle.fonts.specs.Kinds.{stepBy}
 use Rattle.fontbytes.specs.Parts.{spelt, forStep}
 use Rattle.fontbytes.proofs.Stepping.{step-asks}
 use borrow.Author.Needs.{needs}

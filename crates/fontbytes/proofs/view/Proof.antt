@@ -1,4 +1,4 @@
--- `fontbytes::view` meets its contract: the body begins where the format says.
+-- `fontbytes::view` meets its contract: the first body begins where the header says.
 -- Assumes nothing.
 use Rattle.fonts.specs.Strike.{viewOf}
 use borrow.Author.Needs.{needs}
@@ -8,8 +8,8 @@ use Rattle.fontbytes.proofs.view.Tie as tie
 header-requires : tie.Need-header-requires
 header-requires c κs = search needs
 
-body-at-requires : tie.Need-body-at-requires
-body-at-requires c κs = search needs
+first-at-requires : tie.Need-first-at-requires
+first-at-requires c κs = search needs
 
 body-requires : tie.Need-body-requires
 body-requires c κs = search needs
@@ -19,4 +19,4 @@ unfolding viewOf
 returns c = cc
 
 pub view-spec : {M : Type 1} → statement M
-view-spec = tie.close (tie.spec header-requires body-at-requires body-requires returns)
+view-spec = tie.close (tie.spec header-requires first-at-requires body-requires returns)

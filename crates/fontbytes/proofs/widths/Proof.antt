@@ -8,17 +8,11 @@ use Rattle.fontbytes.proofs.widths.Tie as tie
 codes-requires : tie.Need-codes-requires
 codes-requires c κs = search needs
 
-pointers-at-requires : tie.Need-pointers-at-requires
-pointers-at-requires c κs = search needs
+add-entries : tie.Need-add-entries
+add-entries c = search needs
 
-add-part-in : tie.Need-add-part-in
-add-part-in c = search needs
-
-add-part-in-2 : tie.Need-add-part-in-2
-add-part-in-2 c = search needs
-
-add-part-in-3 : tie.Need-add-part-in-3
-add-part-in-3 c = search needs
+past-requires : tie.Need-past-requires
+past-requires c κs = search needs
 
 part-in-requires : tie.Need-part-in-requires
 part-in-requires c κs = search needs
@@ -29,12 +23,4 @@ returns c = cc
 
 pub widths-spec : {M : Type 1} → statement M
 widths-spec =
-    tie.close
-    (tie.spec
-    codes-requires
-    pointers-at-requires
-    add-part-in
-    add-part-in-2
-    add-part-in-3
-    part-in-requires
-    returns)
+    tie.close (tie.spec codes-requires add-entries past-requires part-in-requires returns)

@@ -2,15 +2,14 @@
 -- after the pointer before.
 -- Assumes nothing.
 use Prim.Native.Nat.{_+_, _-_, _≤_}
-use mathlib.Core.Path.{_≡_, refl, sym, ap, _∙_}
-use mathlib.Core.Bool.{Bool, true, false, _||_}
+use mathlib.Core.Path.{_≡_, refl}
+use mathlib.Core.Bool.{_||_}
 use native.Mathlib.Omega.{arith}
 use denote.Ref.{now}
-use lib.Dec.{ltb}
-use lib.ListN.{length, getD, drop}
+use lib.ListN.{length, drop}
 use borrow.Author.Needs.{needs}
 use Rattle.fonts.specs.Reading.{fallsFrom}
-use Rattle.fonts.proofs.Falling.{falls-step, falls-no-more}
+use Rattle.fonts.proofs.Falling.{falls-more, falls-all}
 use Rattle.fonts.proofs.falls.Statement.{statement}
 use Rattle.fonts.proofs.falls.Tie as tie
 
@@ -20,17 +19,6 @@ Inv-loop pointers fallen₀ before₀ i₀ fallen before i =
 
 abbrev μ-loop : tie.MeasureT-loop
 μ-loop pointers fallen₀ before₀ i₀ fallen before i = length pointers - i
-
--- one test more is in what is known, and no longer in what is left
-moved : (fallen here rest : Bool) → (fallen || (here || rest)) ≡ ((here || fallen) || rest)
-moved true true rest = refl
-moved true false rest = refl
-moved false true rest = refl
-moved false false rest = refl
-
-nothing-left : (fallen : Bool) → (fallen || false) ≡ fallen
-nothing-left true = refl
-nothing-left false = refl
 
 loop-holds : tie.Need-loop-holds Inv-loop μ-loop
 loop-holds c = (omega arith, refl)
@@ -53,24 +41,16 @@ loop-less c = omega arith
 loop-again : tie.Need-loop-again Inv-loop μ-loop
 loop-again c =
     let b = c .before .before .before in
-    let pointers = now (b .before .before .args .pointers) in
-    let pointer = getD pointers (b .loop .i) 0 in
-    let rest = fallsFrom pointer (drop (b .loop .i + 1) pointers) in (
+    let pointers = now (b .before .before .args .pointers) in (
       omega arith,
-      b .loop .inv .1
-          ∙ ap (_||_ (b .loop .fallen)) (falls-step pointers (b .loop .i) (b .loop .before) (omega arith))
-          ∙ moved (b .loop .fallen) (ltb pointer (b .loop .before)) rest
-          ∙ ap (λ f. f || rest) (sym (c .fallen-with .ensures)),
+      falls-more pointers (b .loop .i) (b .loop .before) (b .loop .fallen) (b .loop .inv .1) _ _ (omega arith) refl
+          (c .fallen-with .ensures),
     )
 
 returns : tie.Need-returns Inv-loop μ-loop
 returns c =
     let b = c .before in
-    let pointers = now (b .before .before .args .pointers) in
-    sym
-    (b .loop .inv .1
-    ∙ ap (_||_ (b .loop .fallen)) (falls-no-more pointers (b .loop .i) (b .loop .before) (omega arith))
-    ∙ nothing-left (b .loop .fallen))
+    falls-all (now (b .before .before .args .pointers)) (b .loop .i) (b .loop .before) (b .loop .fallen) (b .loop .inv .1) (omega arith)
 
 pub falls-spec : {M : Type 1} → statement M
 falls-spec =

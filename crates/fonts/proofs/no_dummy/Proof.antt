@@ -1,21 +1,40 @@
--- `fonts::no_dummy` meets its contract: only a kerned file's dummy is asked for its entry.
+-- `fonts::no_dummy` meets its contract, by what the tables say of the dummy.
 -- Assumes nothing.
 use Rattle.fonts.specs.Reading.{noDummy}
-use Rattle.words.proofs.Chain.{chain, as-chain}
 use borrow.Author.Needs.{needs}
 use Rattle.fonts.proofs.no_dummy.Statement.{statement}
 use Rattle.fonts.proofs.no_dummy.Tie as tie
 
-kerned-requires : tie.Need-kerned-requires
-kerned-requires c κs = search needs
+codes-requires : tie.Need-codes-requires
+codes-requires c κs = search needs
+
+cast-name-at : tie.Need-cast-name-at
+cast-name-at c = search needs
+
+name-at-requires : tie.Need-name-at-requires
+name-at-requires c κs = search needs
+
+widths-requires : tie.Need-widths-requires
+widths-requires c κs = search needs
+
+word-at-requires : tie.Need-word-at-requires
+word-at-requires c κs = search needs
+
+marked-requires : tie.Need-marked-requires
+marked-requires c κs = search needs
 
 returns : tie.Need-returns
 unfolding noDummy
-returns c = as-chain (search chain depth 20)
-
-returns-2 : tie.Need-returns-2
-unfolding noDummy
-returns-2 c = as-chain (search chain depth 20)
+returns c = cc
 
 pub no-dummy-spec : {M : Type 1} → statement M
-no-dummy-spec = tie.close (tie.spec kerned-requires returns returns-2)
+no-dummy-spec =
+    tie.close
+    (tie.spec
+    codes-requires
+    cast-name-at
+    name-at-requires
+    widths-requires
+    word-at-requires
+    marked-requires
+    returns)

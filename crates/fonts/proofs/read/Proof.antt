@@ -19,8 +19,8 @@ abbrev font-of : tie.After-number-by → List ℕ
 font-of c = now (c .before .before .before .args .font)
 
 number-is : (c : tie.After-number-by) → c .number-by .result ≡ fontNumber (font-of c)
-unfolding fontNumber
-number-is c = c .number-by .ensures ∙ ap (λ (v : View). numberBy v (font-of c)) (c .before .of .ensures)
+unfolding fontNumber viewOf
+number-is c = c .number-by .ensures ∙ ap (λ (v : View). numberBy (v .header) (font-of c)) (c .before .of .ensures)
 
 of-requires : tie.Need-of-requires
 of-requires c κs = search needs

@@ -1,43 +1,56 @@
 -- `fonts::row` meets its contract, by its two tests; the part begins and ends where the definition says.
 -- Assumes nothing.
-use Prim.Native.Nat.{ℕ, _+_, _*_, _≤_}
-use mathlib.Core.Path.{_≡_, ap, _∙_}
+use Prim.Native.Nat.{ℕ, _+_, _*_, _≤_, _<_}
+use mathlib.Core.Path.{_≡_, refl, sym, ap, _∙_}
+use mathlib.Core.Bool.{true, false, _&&_, and-false}
 use mathlib.Core.List.{List}
 use native.Mathlib.Omega.{arith}
 use denote.Ref.{now}
+use lib.Dec.{ltb, eqb}
 use lib.ListN.{drop, take}
+use borrow.Author.Tests.{lt-ltb, le-ltb, eq-eqb, ne-eqb}
 use Rattle.fonts.specs.declared.View.{View}
+use Rattle.fonts.specs.declared.Strike.{Strike}
 use Rattle.fonts.specs.Face.{rowOf}
 use Rattle.fonts.specs.Reading.{numberBy, fontNumber, accepted}
-use Rattle.fonts.specs.Strike.{viewOf, bitmapAt, height}
+use Rattle.fonts.specs.Strike.{viewOf, height, strikeIn, strikeBy, bitmapsOf}
 use Rattle.fonts.proofs.Dots.{row-start}
-use Rattle.words.proofs.Chain.{chain-of-replies}
+use Rattle.fonts.proofs.Accepted.{strike-accepted}
 use borrow.Author.Needs.{needs}
 use Rattle.fonts.proofs.row.Statement.{statement}
 use Rattle.fonts.proofs.row.Tie as tie
 
--- the moments: the font has its number, and then its height
-abbrev numbered : tie.After-height → tie.After-number-by
-numbered c = c .before .before
-
+-- the moments: the font has its number, and then the body's height is known
 abbrev font-of : tie.After-number-by → List ℕ
 font-of c = now (c .before .before .before .args .font)
 
 number-is : (c : tie.After-number-by) → c .number-by .result ≡ fontNumber (font-of c)
-unfolding fontNumber
-number-is c = c .number-by .ensures ∙ ap (λ (v : View). numberBy v (font-of c)) (c .before .of .ensures)
+unfolding fontNumber viewOf
+number-is c = c .number-by .ensures ∙ ap (λ (v : View). numberBy (v .header) (font-of c)) (c .before .of .ensures)
 
-height-is : (c : tie.After-height) → c .height .result ≡ height (viewOf (font-of (numbered c)) .body)
-height-is c = c .height .ensures .0 ∙ ap (λ (v : View). height (v .body)) (numbered c .before .of .ensures)
+module _ (c : tie.After-height) where
+  abbrev numbered : tie.After-number-by
+  numbered = c .before .before .before .before .before
 
--- and where the part begins is known
-abbrev read : tie.After-bitmap-at → tie.After-of
-read c = c .before .before .before .before .before .before
+  abbrev call : tie.Start
+  call = numbered .before .before .before
 
-start-fits : (c : tie.After-bitmap-at) → read c .before .before .args .r * read c .of .result .body .raster ≤ 281470681677825
-start-fits c =
-    let raster = c .before .struct-known .given .1 .0 .1 .1 .1 .1 .0 .fits in
-    row-start (read c .before .before .args .r) (read c .of .result .body .raster) (omega arith) (omega (arith, raster))
+  abbrev font : List ℕ
+  font = now (call .args .font)
+
+  good-number : fontNumber font ≡ 0
+  good-number = sym (number-is numbered) ∙ c .before .before .before .before .if1 .left
+
+  strike-is : c .before .strike .result ≡ strikeIn (viewOf font) font (call .args .body)
+  strike-is =
+      c .before .strike .ensures
+      ∙ ap (λ (bitmaps : List ℕ). strikeBy (numbered .before .of .result) bitmaps font (call .args .body))
+      (c .before .before .before .bitmaps .ensures)
+      ∙ ap (λ (v : View). strikeBy v (bitmapsOf (v .header) font) font (call .args .body)) (numbered .before .of .ensures)
+      ∙ strike-accepted font good-number (call .args .body)
+
+  height-is : c .height .result ≡ height (strikeIn (viewOf font) font (call .args .body) .body)
+  height-is = c .height .ensures .0 ∙ ap (λ (s : Strike). height (s .body)) strike-is
 
 of-requires : tie.Need-of-requires
 of-requires c κs = search needs
@@ -51,8 +64,17 @@ slice-aggregate-result c = search needs
 returns : tie.Need-returns
 unfolding rowOf accepted
 returns c =
-    let number = number-is (c .before .before) in
-    search chain-of-replies depth 20
+    let number = sym (number-is (c .before .before)) in
+    rw (ne-eqb (fontNumber (font-of (c .before .before))) 0 (λ e. c .before .if1 .taken (sym number ∙ e)))
+
+bitmaps-requires : tie.Need-bitmaps-requires
+bitmaps-requires c κs = search needs
+
+slice-aggregate-strike : tie.Need-slice-aggregate-strike
+slice-aggregate-strike c = search needs
+
+strike-requires : tie.Need-strike-requires
+strike-requires c κs = search needs
 
 height-requires : tie.Need-height-requires
 height-requires c κs = search needs
@@ -63,21 +85,36 @@ slice-aggregate-result-2 c = search needs
 returns-2 : tie.Need-returns-2
 unfolding rowOf accepted
 returns-2 c =
-    let number = number-is (numbered (c .before .before)) in
-    let height = height-is (c .before .before) in
-    search chain-of-replies depth 20
+    let h = c .before .before in
+    rw (
+      le-ltb (call h .args .r) (height (strikeIn (viewOf (font h)) (font h) (call h .args .body) .body))
+          (rw (height-is h) at (c .before .if2 .taken)),
+      and-false _,
+    )
 
 cast-raster : tie.Need-cast-raster
 cast-raster c = search needs
 
-bitmap-at-requires : tie.Need-bitmap-at-requires
-bitmap-at-requires c κs = search needs
+cast-part : tie.Need-cast-part
+cast-part c = search needs
 
 mul-part : tie.Need-mul-part
-mul-part c = omega (arith, start-fits c)
+mul-part c =
+    let less = c .before .before .if2 .left in
+    let tall = c .before .before .before .height .ensures .1 in
+    let raster = c .struct-known2 .given .1 .0 .1 .1 .1 .1 .0 .fits in
+    let fits = row-start (call (c .before .before .before) .args .r) (c .before .before .before .before .strike .result .body .raster)
+    (omega (arith, less, tall)) (omega (arith, raster)) in
+    omega (arith, fits)
 
 add-part : tie.Need-add-part
-add-part c = omega (arith, start-fits c)
+add-part c =
+    let less = c .before .before .if2 .left in
+    let tall = c .before .before .before .height .ensures .1 in
+    let raster = c .struct-known2 .given .1 .0 .1 .1 .1 .1 .0 .fits in
+    let fits = row-start (call (c .before .before .before) .args .r) (c .before .before .before .before .strike .result .body .raster)
+    (omega (arith, less, tall)) (omega (arith, raster)) in
+    omega (arith, fits)
 
 part-requires : tie.Need-part-requires
 part-requires c κs = search needs
@@ -86,16 +123,11 @@ returns-3 : tie.Need-returns-3
 unfolding rowOf accepted
 returns-3 c =
     let h = c .before .before .before .before in
-    let a = numbered h .before .before .before .args in
-    let read = numbered h .before .of in
-    let raster = read .result .body .raster in
-    let part =
-    c .part .ensures
-    ∙ ap (λ (b : ℕ). take raster (drop (b + a .r * raster) (now (a .font)))) (c .before .bitmap-at .ensures .0)
-    ∙ ap (λ (v : View). take (v .body .raster) (drop (bitmapAt (v .header) + a .r * v .body .raster) (now (a .font)))) (read .ensures) in
-    let number = number-is (numbered h) in
-    let height = height-is h in
-    search chain-of-replies depth 20
+    let good = good-number h in
+    let below = rw (height-is h) at (c .before .before .before .if2 .left) in
+    rw (good, lt-ltb (call h .args .r) (height (strikeIn (viewOf (font h)) (font h) (call h .args .body) .body)) below)
+    (c .part .ensures
+    ∙ ap (λ (s : Strike). take (s .body .raster) (drop (s .bitmap + call h .args .r * s .body .raster) (font h))) (strike-is h))
 
 pub row-spec : {M : Type 1} → statement M
 row-spec =
@@ -105,11 +137,14 @@ row-spec =
     number-by-requires
     slice-aggregate-result
     returns
+    bitmaps-requires
+    slice-aggregate-strike
+    strike-requires
     height-requires
     slice-aggregate-result-2
     returns-2
     cast-raster
-    bitmap-at-requires
+    cast-part
     mul-part
     add-part
     part-requires

@@ -1,4 +1,4 @@
--- `fonts::table_number` meets its contract: its tests are the definition's, in the same order.
+-- `fonts::table_number` meets its contract, by the tests that it makes.
 -- Assumes nothing.
 use Rattle.words.specs.Refusal.{firstOf}
 use Rattle.fonts.specs.Reading.{tableNumber}
@@ -7,8 +7,8 @@ use borrow.Author.Needs.{needs}
 use Rattle.fonts.proofs.table_number.Statement.{statement}
 use Rattle.fonts.proofs.table_number.Tie as tie
 
-bad-pointers-requires : tie.Need-bad-pointers-requires
-bad-pointers-requires c κs = search needs
+nameless-requires : tie.Need-nameless-requires
+nameless-requires c κs = search needs
 
 returns : tie.Need-returns
 unfolding tableNumber firstOf
@@ -27,4 +27,4 @@ returns-3 c = search chain depth 20
 
 pub table-number-spec : {M : Type 1} → statement M
 table-number-spec =
-    tie.close (tie.spec bad-pointers-requires returns no-dummy-requires returns-2 returns-3)
+    tie.close (tie.spec nameless-requires returns no-dummy-requires returns-2 returns-3)

@@ -1,25 +1,18 @@
 -- `fonts::widths` meets its contract: the part begins and ends where the definition says.
 -- Assumes nothing.
-use native.Mathlib.Omega.{arith}
-use borrow.Author.Needs.{needs}
 use Rattle.fonts.specs.Strike.{widthsOf}
+use borrow.Author.Needs.{needs}
 use Rattle.fonts.proofs.widths.Statement.{statement}
 use Rattle.fonts.proofs.widths.Tie as tie
 
 codes-requires : tie.Need-codes-requires
 codes-requires c κs = search needs
 
-pointers-at-requires : tie.Need-pointers-at-requires
-pointers-at-requires c κs = search needs
+add-entries : tie.Need-add-entries
+add-entries c = search needs
 
-add-part : tie.Need-add-part
-add-part c = omega arith
-
-add-part-2 : tie.Need-add-part-2
-add-part-2 c = omega arith
-
-add-part-3 : tie.Need-add-part-3
-add-part-3 c = search needs
+past-requires : tie.Need-past-requires
+past-requires c κs = search needs
 
 part-requires : tie.Need-part-requires
 part-requires c κs = search needs
@@ -29,5 +22,4 @@ unfolding widthsOf
 returns c = cc
 
 pub widths-spec : {M : Type 1} → statement M
-widths-spec =
-    tie.close (tie.spec codes-requires pointers-at-requires add-part add-part-2 add-part-3 part-requires returns)
+widths-spec = tie.close (tie.spec codes-requires add-entries past-requires part-requires returns)

@@ -10,6 +10,8 @@ use lib.ListN.{length, getD, drop}
 use Rattle.words.proofs.Altering.{AllWords}
 use Rattle.words.proofs.Clearing.{whole, clears}
 use Rattle.fonts.specs.declared.Glyph.{Glyph}
+use Rattle.fonts.specs.declared.Strike.{Strike}
+use Rattle.fonts.specs.Strike.{pointersOf}
 use Rattle.fonts.specs.Face.{Face, faceFrom, stepOf}
 use Rattle.paint.specs.declared.Stroke.{Stroke}
 use Rattle.paint.specs.Pen.{penAfter, penAlong, stepsOf, Near, strokeWords, Drawable}
@@ -32,6 +34,24 @@ Inv-loop font v k text keep₀ flip₀ pointers widths pen₀ i₀ keep flip pen
 abbrev μ-loop : tie.MeasureT-loop
 μ-loop font v k text keep₀ flip₀ pointers widths pen₀ i₀ keep flip pen i = length text - i
 
+index-requires : tie.Need-index-requires Inv-loop μ-loop
+index-requires c κs = search needs
+
+join-mapped-requires : tie.Need-join-mapped-requires Inv-loop μ-loop
+join-mapped-requires c κs = search needs
+
+same-length : tie.Need-same-length Inv-loop μ-loop
+same-length c = search needs
+
+same-length-2 : tie.Need-same-length-2 Inv-loop μ-loop
+same-length-2 c = search needs
+
+returns : tie.Need-returns Inv-loop μ-loop
+returns c = c .before .before .before .before .join-mapped .ensures
+
+first-requires : tie.Need-first-requires Inv-loop μ-loop
+first-requires c κs = search needs
+
 pointers-requires : tie.Need-pointers-requires Inv-loop μ-loop
 pointers-requires c κs = search needs
 
@@ -43,8 +63,8 @@ loop-holds c = (
   omega arith,
   refl,
   refl,
-  (λ i. c .before .before .before .slice-known .given i .fits),
-  (λ i. c .before .before .slice-known2 .given i .fits),
+  (λ i. c .before .before .before .before .before .before .slice-known .given i .fits),
+  (λ i. c .before .before .before .before .before .slice-known2 .given i .fits),
   refl,
   refl,
   refl,
@@ -54,7 +74,7 @@ loop-holds c = (
 -- the call, wherever the loop is
 module _ (b : tie.At-loop Inv-loop μ-loop) where
   abbrev call : tie.Start Inv-loop μ-loop
-  call = b .before .before .before .before .before .before .before
+  call = b .before .before .before .before .before .before .before .before .before .before
 
   abbrev face : Face
   face = faceFrom (call .args .v) (now (call .args .font))
@@ -88,8 +108,11 @@ module _ (shown : tie.After-at Inv-loop μ-loop) where
   glyph : shown .at .result ≡ face turn .glyph (getD (text turn) (turn .loop .i) 0)
   glyph =
       let tables = turn .before in
-      found-glyph (call turn .args .v) (now (call turn .args .font)) _ _ _ (shown .at .ensures)
-      (tables .before .pointers .ensures) (tables .widths .ensures) (shown .before .code .ensures)
+      let font = now (call turn .args .font) in
+      let single = sym (tables .before .before .before .before .index .ensures) ∙ tables .before .before .before .if1 .left in
+      let first = ap (λ (s : Strike). pointersOf s font) (tables .before .before .first .ensures) in
+      found-glyph (call turn .args .v) font _ _ _ single (shown .at .ensures)
+      (tables .before .pointers .ensures ∙ first) (tables .widths .ensures) (shown .before .code .ensures)
 
   behind : 1 ≤ shown .at .result .bitmap
   behind = rw glyph (glyph-behind (call turn .args .v) (now (call turn .args .font)) (getD (text turn) (turn .loop .i) 0))
@@ -152,22 +175,22 @@ loop-again c =
       omega (arith, less shown),
       pictured-length clears (face b) (k b) pen _ keep _ kept ∙ b .loop .inv .1,
       pictured-length whole (face b) (k b) pen _ flip _ flipped ∙ b .loop .inv .2,
-      (λ n. stepped .before .before .before .slice-known3 .given n .fits),
-      (λ n. stepped .before .slice-known4 .given n .fits),
+      (λ n. stepped .before .before .before .slice-known5 .given n .fits),
+      (λ n. stepped .before .slice-known6 .given n .fits),
       b .loop .inv .5 ∙ drawn-turn clears (face b) (k b) (text b) i pen next keep _ (less shown) (drawable b .6) moved kept,
       b .loop .inv .6 ∙ drawn-turn whole (face b) (k b) (text b) i pen next flip _ (less shown) (flip-room b) moved flipped,
       b .loop .inv .7 ∙ along-turn (stepsOf (face b)) (text b) i pen next (less shown) moved,
       gone-on _ pen next i (b .loop .inv .8) (c .after .ensures .1),
     )
 
-same-length : tie.Need-same-length Inv-loop μ-loop
-same-length c = c .before .loop .inv .1
+same-length-3 : tie.Need-same-length-3 Inv-loop μ-loop
+same-length-3 c = c .before .loop .inv .1
 
-same-length-2 : tie.Need-same-length-2 Inv-loop μ-loop
-same-length-2 c = c .before .loop .inv .2
+same-length-4 : tie.Need-same-length-4 Inv-loop μ-loop
+same-length-4 c = c .before .loop .inv .2
 
-returns : tie.Need-returns Inv-loop μ-loop
-returns c =
+returns-2 : tie.Need-returns-2 Inv-loop μ-loop
+returns-2 c =
     let b = c .before in
     let i = b .loop .i in
     let pen = b .loop .pen in
@@ -183,6 +206,12 @@ join-text-spec =
     (tie.spec
     Inv-loop
     μ-loop
+    index-requires
+    join-mapped-requires
+    same-length
+    same-length-2
+    returns
+    first-requires
     pointers-requires
     widths-requires
     loop-holds
@@ -195,6 +224,6 @@ join-text-spec =
     add-i
     loop-less
     loop-again
-    same-length
-    same-length-2
-    returns)
+    same-length-3
+    same-length-4
+    returns-2)

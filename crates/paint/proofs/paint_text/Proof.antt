@@ -10,6 +10,8 @@ use lib.ListN.{length, getD, drop}
 use Rattle.words.proofs.Altering.{AllWords}
 use Rattle.words.proofs.Clearing.{whole}
 use Rattle.fonts.specs.declared.Glyph.{Glyph}
+use Rattle.fonts.specs.declared.Strike.{Strike}
+use Rattle.fonts.specs.Strike.{pointersOf}
 use Rattle.fonts.specs.Face.{Face, faceFrom, stepOf}
 use Rattle.paint.specs.declared.Stroke.{Stroke}
 use Rattle.paint.specs.Pen.{penAfter, penAlong, stepsOf, Near, Drawable}
@@ -31,6 +33,21 @@ Inv-loop font v k text panel₀ pointers widths pen₀ i₀ panel pen i =
 abbrev μ-loop : tie.MeasureT-loop
 μ-loop font v k text panel₀ pointers widths pen₀ i₀ panel pen i = length text - i
 
+index-requires : tie.Need-index-requires Inv-loop μ-loop
+index-requires c κs = search needs
+
+paint-mapped-requires : tie.Need-paint-mapped-requires Inv-loop μ-loop
+paint-mapped-requires c κs = search needs
+
+same-length : tie.Need-same-length Inv-loop μ-loop
+same-length c = search needs
+
+returns : tie.Need-returns Inv-loop μ-loop
+returns c = c .before .before .paint-mapped .ensures
+
+first-requires : tie.Need-first-requires Inv-loop μ-loop
+first-requires c κs = search needs
+
 pointers-requires : tie.Need-pointers-requires Inv-loop μ-loop
 pointers-requires c κs = search needs
 
@@ -38,12 +55,12 @@ widths-requires : tie.Need-widths-requires Inv-loop μ-loop
 widths-requires c κs = search needs
 
 loop-holds : tie.Need-loop-holds Inv-loop μ-loop
-loop-holds c = (omega arith, refl, (λ i. c .before .before .slice-known .given i .fits), refl, refl, gone-nowhere _)
+loop-holds c = (omega arith, refl, (λ i. c .before .before .before .before .before .slice-known .given i .fits), refl, refl, gone-nowhere _)
 
 -- the call, wherever the loop is
 module _ (b : tie.At-loop Inv-loop μ-loop) where
   abbrev call : tie.Start Inv-loop μ-loop
-  call = b .before .before .before .before .before .before
+  call = b .before .before .before .before .before .before .before .before .before
 
   abbrev face : Face
   face = faceFrom (call .args .v) (now (call .args .font))
@@ -72,8 +89,11 @@ module _ (shown : tie.After-at Inv-loop μ-loop) where
   glyph : shown .at .result ≡ face turn .glyph (getD (text turn) (turn .loop .i) 0)
   glyph =
       let tables = turn .before in
-      found-glyph (call turn .args .v) (now (call turn .args .font)) _ _ _ (shown .at .ensures)
-      (tables .before .pointers .ensures) (tables .widths .ensures) (shown .before .code .ensures)
+      let font = now (call turn .args .font) in
+      let single = sym (tables .before .before .before .before .index .ensures) ∙ tables .before .before .before .if1 .left in
+      let first = ap (λ (s : Strike). pointersOf s font) (tables .before .before .first .ensures) in
+      found-glyph (call turn .args .v) font _ _ _ single (shown .at .ensures)
+      (tables .before .pointers .ensures ∙ first) (tables .widths .ensures) (shown .before .code .ensures)
 
   behind : 1 ≤ shown .at .result .bitmap
   behind = rw glyph (glyph-behind (call turn .args .v) (now (call turn .args .font)) (getD (text turn) (turn .loop .i) 0))
@@ -133,17 +153,17 @@ loop-again c =
     let marks = drew .paint-picture .ensures ∙ ap (λ (h : Glyph). pictured whole (face b) (k b) pen h panel) (glyph shown) in (
       omega (arith, less shown),
       pictured-length whole (face b) (k b) pen _ panel _ marks ∙ b .loop .inv .1,
-      (λ n. c .before .before .slice-known2 .given n .fits),
+      (λ n. c .before .before .slice-known3 .given n .fits),
       b .loop .inv .3 ∙ drawn-turn whole (face b) (k b) (text b) i pen next panel _ (less shown) (drawable b .6) moved marks,
       b .loop .inv .4 ∙ along-turn (stepsOf (face b)) (text b) i pen next (less shown) moved,
       gone-on _ pen next i (b .loop .inv .5) (c .after .ensures .1),
     )
 
-same-length : tie.Need-same-length Inv-loop μ-loop
-same-length c = c .before .loop .inv .1
+same-length-2 : tie.Need-same-length-2 Inv-loop μ-loop
+same-length-2 c = c .before .loop .inv .1
 
-returns : tie.Need-returns Inv-loop μ-loop
-returns c =
+returns-2 : tie.Need-returns-2 Inv-loop μ-loop
+returns-2 c =
     let b = c .before in
     let i = b .loop .i in
     let pen = b .loop .pen in
@@ -157,6 +177,11 @@ paint-text-spec =
     (tie.spec
     Inv-loop
     μ-loop
+    index-requires
+    paint-mapped-requires
+    same-length
+    returns
+    first-requires
     pointers-requires
     widths-requires
     loop-holds
@@ -169,5 +194,5 @@ paint-text-spec =
     add-i
     loop-less
     loop-again
-    same-length
-    returns)
+    same-length-2
+    returns-2)

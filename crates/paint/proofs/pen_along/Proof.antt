@@ -9,18 +9,22 @@ use lib.ListN.{length, getD, drop}
 use Rattle.fonts.specs.Face.{Face, faceFrom, stepOf}
 use Rattle.paint.specs.Pen.{penAfter, penAlong, stepsOf, Near}
 use Rattle.paint.proofs.Along.{along-turn, along-done, Gone, gone-nowhere, gone-on, gone-near}
+use Rattle.paint.proofs.Labels.{tabled-glyph}
 use borrow.Author.Needs.{needs}
 use Rattle.paint.proofs.pen_along.Statement.{statement}
 use Rattle.paint.proofs.pen_along.Tie as tie
 
 abbrev Inv-loop : tie.InvT-loop
-Inv-loop font v text pen₀ i₀ pen i =
+Inv-loop font v text bitmaps pen₀ i₀ pen i =
     (i ≤ length text)
     × (penAlong (stepsOf (faceFrom v font)) pen₀ text ≡ penAlong (stepsOf (faceFrom v font)) pen (drop i text))
     × Gone pen₀ pen i
 
 abbrev μ-loop : tie.MeasureT-loop
-μ-loop font v text pen₀ i₀ pen i = length text - i
+μ-loop font v text bitmaps pen₀ i₀ pen i = length text - i
+
+bitmaps-requires : tie.Need-bitmaps-requires Inv-loop μ-loop
+bitmaps-requires c κs = search needs
 
 loop-holds : tie.Need-loop-holds Inv-loop μ-loop
 loop-holds c = (omega arith, refl, gone-nowhere _)
@@ -28,7 +32,7 @@ loop-holds c = (omega arith, refl, gone-nowhere _)
 -- the call, wherever the loop is
 module _ (b : tie.At-loop Inv-loop μ-loop) where
   abbrev call : tie.Start Inv-loop μ-loop
-  call = b .before .before .before
+  call = b .before .before .before .before
 
   abbrev face : Face
   face = faceFrom (call .args .v) (now (call .args .font))
@@ -40,13 +44,17 @@ module _ (b : tie.At-loop Inv-loop μ-loop) where
   near = gone-near _ (b .loop .pen) (b .loop .i) (length text) (call .pre .0) (call .pre .1) (b .loop .inv .0) (b .loop .inv .2)
 
 -- and when a character has been found
-module _ (shown : tie.After-of Inv-loop μ-loop) where
+module _ (shown : tie.After-found Inv-loop μ-loop) where
   abbrev turn : tie.At-loop Inv-loop μ-loop
-  turn = shown .before .before .before .before
+  turn = shown .before .before .before .before .before
 
-  glyph : shown .of .result ≡ face turn .glyph (getD (text turn) (turn .loop .i) 0)
-  unfolding faceFrom
-  glyph = shown .of .ensures ∙ ap (face turn .glyph) (shown .before .code .ensures)
+  glyph : shown .found .result ≡ face turn .glyph (getD (text turn) (turn .loop .i) 0)
+  glyph =
+      tabled-glyph (call turn .args .v) (now (call turn .args .font)) _ _ (shown .found .ensures)
+      (turn .before .bitmaps .ensures) (shown .before .code .ensures)
+
+slice-aggregate-found : tie.Need-slice-aggregate-found Inv-loop μ-loop
+slice-aggregate-found c = search needs
 
 shared-slice-read-code : tie.Need-shared-slice-read-code Inv-loop μ-loop
 shared-slice-read-code c = omega arith
@@ -54,8 +62,8 @@ shared-slice-read-code c = omega arith
 code-requires : tie.Need-code-requires Inv-loop μ-loop
 code-requires c κs = search needs
 
-of-requires : tie.Need-of-requires Inv-loop μ-loop
-of-requires c κs = search needs
+found-requires : tie.Need-found-requires Inv-loop μ-loop
+found-requires c κs = search needs
 
 step-requires : tie.Need-step-requires Inv-loop μ-loop
 step-requires c κs = search needs
@@ -95,10 +103,12 @@ pen-along-spec =
     (tie.spec
     Inv-loop
     μ-loop
+    bitmaps-requires
     loop-holds
+    slice-aggregate-found
     shared-slice-read-code
     code-requires
-    of-requires
+    found-requires
     step-requires
     after-requires
     add-i

@@ -24,7 +24,7 @@ pub const DAMAGES: [fn(&mut Random, &mut Parts); 15] = [
 ];
 
 pub fn damage_format(random: &mut Random, parts: &mut Parts) {
-    let flipped = random.pick(&[0x8000, 0x4000, 0x0800, 0x0001, 0x0010, 0xC000, 0x4FFF]);
+    let flipped = random.pick(&[0x8000, 0x0800, 0x0001, 0x0010, 0xC000, 0x4FFF]);
     parts.format ^= flipped;
 }
 

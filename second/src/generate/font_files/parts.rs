@@ -78,6 +78,7 @@ impl Parts {
             max: i64::from(self.max),
             ascent: i64::from(self.ascent),
             height: i64::from(self.ascent) + i64::from(self.descent),
+            body_heights: vec![i64::from(self.ascent) + i64::from(self.descent)],
             left: if self.kerned {
                 signed(self.bounding_box[0])
             } else {
@@ -157,7 +158,7 @@ pub fn overlapping_parts(random: &mut Random) -> Parts {
     parts
 }
 
-fn random_format(random: &mut Random, kerned: bool) -> u16 {
+pub fn random_format(random: &mut Random, kerned: bool) -> u16 {
     let fixed = if random.one_in(2) { 0x2000 } else { 0 };
     let kerned = if kerned { 0x1000 } else { 0 };
     0x8000 | fixed | kerned
@@ -212,7 +213,7 @@ fn random_pointers(random: &mut Random, codes: i64) -> Vec<u16> {
     running_sums(first, &widths)
 }
 
-fn random_width(random: &mut Random, widest: i64) -> i64 {
+pub fn random_width(random: &mut Random, widest: i64) -> i64 {
     match random.below(8) {
         0 | 1 => 0,
         2 if widest > 3 => random.between(1, 24),
@@ -220,7 +221,7 @@ fn random_width(random: &mut Random, widest: i64) -> i64 {
     }
 }
 
-fn running_sums(first: i64, widths: &[i64]) -> Vec<u16> {
+pub fn running_sums(first: i64, widths: &[i64]) -> Vec<u16> {
     let mut sum = first;
     let mut sums = vec![first as u16];
     for width in widths {
@@ -230,20 +231,20 @@ fn running_sums(first: i64, widths: &[i64]) -> Vec<u16> {
     sums
 }
 
-fn raster_for(pointers: &[u16]) -> i64 {
+pub fn raster_for(pointers: &[u16]) -> i64 {
     let columns = i64::from(pointers[pointers.len() - 1]);
     ((columns + 15) / 16).max(1)
 }
 
 /// n + 2 pointers from 0 up to the last column that a word can name.
-fn spread_pointers(codes: i64, columns: i64) -> Vec<u16> {
+pub fn spread_pointers(codes: i64, columns: i64) -> Vec<u16> {
     let last = columns.min(65_535);
     (0..codes + 2)
         .map(|place| (last * place / (codes + 1)) as u16)
         .collect()
 }
 
-fn random_bitmap(random: &mut Random, words: usize) -> Vec<u16> {
+pub fn random_bitmap(random: &mut Random, words: usize) -> Vec<u16> {
     let style = random.below(5);
     if words > 300 {
         return speckled(random, words);
@@ -271,7 +272,7 @@ fn speckled(random: &mut Random, words: usize) -> Vec<u16> {
 }
 
 /// One entry for each code from min to max, and the dummy's, which is never absent here.
-fn random_entries(random: &mut Random, codes: i64) -> Vec<u16> {
+pub fn random_entries(random: &mut Random, codes: i64) -> Vec<u16> {
     let mut entries: Vec<u16> = (0..codes).map(|_| random_entry(random)).collect();
     entries.push(random_entry(random) & 0xFFFE);
     entries
@@ -285,7 +286,7 @@ fn random_entry(random: &mut Random) -> u16 {
     }
 }
 
-fn random_bounding_box(random: &mut Random) -> [u16; 4] {
+pub fn random_bounding_box(random: &mut Random) -> [u16; 4] {
     let fbbox = match random.below(6) {
         0 => random.pick(&[-255, -254, 0, 254, 255]),
         _ => random.between(-5, 5),

@@ -1,7 +1,8 @@
 -- `fonts::Glyph::at` meets its contract, field by field: it asks the tables at the code's own place, and at the dummy's where the dummy
 -- is drawn.
 -- Assumes nothing.
-use Rattle.fonts.specs.Face.{shown, glyphBy}
+use Rattle.fonts.specs.Face.{pictureOf}
+use Rattle.fonts.specs.Kinds.{glyphOver}
 use borrow.Author.Needs.{needs}
 use Rattle.fonts.proofs.Glyph.at.Statement.{statement}
 use Rattle.fonts.proofs.Glyph.at.Tie as tie
@@ -12,17 +13,14 @@ place-requires c κs = search needs
 at-requires : tie.Need-at-requires
 at-requires c κs = search needs
 
-exists-requires : tie.Need-exists-requires
-exists-requires c κs = search needs
+there-requires : tie.Need-there-requires
+there-requires c κs = search needs
 
 drawn-requires : tie.Need-drawn-requires
 drawn-requires c κs = search needs
 
-bitmap-at-requires : tie.Need-bitmap-at-requires
-bitmap-at-requires c κs = search needs
-
-cast-t10 : tie.Need-cast-t10
-cast-t10 c = search needs
+only-bitmap-requires : tie.Need-only-bitmap-requires
+only-bitmap-requires c κs = search needs
 
 columns-requires : tie.Need-columns-requires
 columns-requires c κs = search needs
@@ -30,8 +28,8 @@ columns-requires c κs = search needs
 height-requires : tie.Need-height-requires
 height-requires c κs = search needs
 
-cast-t13 : tie.Need-cast-t13
-cast-t13 c = search needs
+cast-t12 : tie.Need-cast-t12
+cast-t12 c = search needs
 
 place-requires-2 : tie.Need-place-requires-2
 place-requires-2 c κs = search needs
@@ -40,7 +38,7 @@ advance-requires : tie.Need-advance-requires
 advance-requires c κs = search needs
 
 returns : tie.Need-returns
-unfolding glyphBy shown
+unfolding glyphOver pictureOf
 returns c = cc
 
 pub at-spec : {M : Type 1} → statement M
@@ -49,13 +47,12 @@ at-spec =
     (tie.spec
     place-requires
     at-requires
-    exists-requires
+    there-requires
     drawn-requires
-    bitmap-at-requires
-    cast-t10
+    only-bitmap-requires
     columns-requires
     height-requires
-    cast-t13
+    cast-t12
     place-requires-2
     advance-requires
     returns)

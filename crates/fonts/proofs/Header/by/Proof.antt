@@ -1,6 +1,5 @@
--- `fonts::Header::by` meets its contract, by the test that it makes.
+-- `fonts::Header::by` meets its contract, field by field.
 -- Assumes nothing.
-use mathlib.Core.Path.{sym, _∙_}
 use Rattle.fonts.specs.Strike.{headerBy}
 use borrow.Author.Needs.{needs}
 use Rattle.fonts.proofs.Header.by.Statement.{statement}
@@ -9,13 +8,25 @@ use Rattle.fonts.proofs.Header.by.Tie as tie
 kerned-format-requires : tie.Need-kerned-format-requires
 kerned-format-requires c κs = search needs
 
+word-if-requires : tie.Need-word-if-requires
+word-if-requires c κs = search needs
+
+index-format-requires : tie.Need-index-format-requires
+index-format-requires c κs = search needs
+
+word-if-requires-2 : tie.Need-word-if-requires-2
+word-if-requires-2 c κs = search needs
+
 returns : tie.Need-returns
 unfolding headerBy
-returns c = let kind = sym (c .before .kerned-format .ensures) ∙ c .if1 .taken in rw kind
-
-returns-2 : tie.Need-returns-2
-unfolding headerBy
-returns-2 c = let kind = sym (c .before .kerned-format .ensures) ∙ c .if1 .left in rw kind
+returns c = cc
 
 pub by-spec : {M : Type 1} → statement M
-by-spec = tie.close (tie.spec kerned-format-requires returns returns-2)
+by-spec =
+    tie.close
+    (tie.spec
+    kerned-format-requires
+    word-if-requires
+    index-format-requires
+    word-if-requires-2
+    returns)

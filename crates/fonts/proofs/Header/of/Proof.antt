@@ -17,6 +17,12 @@ word-at-requires-3 c κs = search needs
 word-at-requires-4 : tie.Need-word-at-requires-4
 word-at-requires-4 c κs = search needs
 
+count-at-requires : tie.Need-count-at-requires
+count-at-requires c κs = search needs
+
+word-at-requires-5 : tie.Need-word-at-requires-5
+word-at-requires-5 c κs = search needs
+
 by-requires : tie.Need-by-requires
 by-requires c κs = search needs
 
@@ -32,5 +38,7 @@ of-spec =
     word-at-requires-2
     word-at-requires-3
     word-at-requires-4
+    count-at-requires
+    word-at-requires-5
     by-requires
     returns)

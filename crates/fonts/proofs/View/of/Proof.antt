@@ -1,4 +1,4 @@
--- `fonts::View::of` meets its contract: the body begins where the format says.
+-- `fonts::View::of` meets its contract: the first body begins where the header says.
 -- Assumes nothing.
 use Rattle.fonts.specs.Strike.{viewOf}
 use borrow.Author.Needs.{needs}
@@ -8,8 +8,8 @@ use Rattle.fonts.proofs.View.of.Tie as tie
 of-requires : tie.Need-of-requires
 of-requires c κs = search needs
 
-body-at-requires : tie.Need-body-at-requires
-body-at-requires c κs = search needs
+first-at-requires : tie.Need-first-at-requires
+first-at-requires c κs = search needs
 
 of-requires-2 : tie.Need-of-requires-2
 of-requires-2 c κs = search needs
@@ -19,4 +19,4 @@ unfolding viewOf
 returns c = cc
 
 pub of-spec : {M : Type 1} → statement M
-of-spec = tie.close (tie.spec of-requires body-at-requires of-requires-2 returns)
+of-spec = tie.close (tie.spec of-requires first-at-requires of-requires-2 returns)
