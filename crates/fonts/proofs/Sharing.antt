@@ -1,5 +1,5 @@
--- P3: "one speaker picture under nine codes". Codes whose map entries are equal show the same dots, and in a plain index move the pen alike;
--- the rows of a picture are placed by the ascent of its own body.
+-- P3: "one speaker picture under nine codes". Codes whose map entries are equal show the same dots, and in a plain index move the pen
+-- alike; the rows of a picture are placed by the ascent of its own body.
 use Prim.Native.Nat.{ℕ, _+_, _-_, _*_, _/_, _%_}
 use mathlib.Core.Path.{_≡_, refl, sym, ap, ap₂, _∙_}
 use mathlib.Core.Bool.{true, false, cond}
@@ -42,7 +42,8 @@ module _ (ws : List ℕ) (indexed : index (viewOf ws .header) ≡ true) where
       mapped-glyph h strikes ws indexed c (c - h .min) (own ∙ place-mapped h strikes ws indexed c)
 
   module _ (c d : ℕ) (there : exists (viewOf ws .header) strikes ws c ≡ true) (also : exists (viewOf ws .header) strikes ws d ≡ true)
-      (same : word (mapOf (viewOf ws .header) ws) (c - viewOf ws .header .min) ≡ word (mapOf (viewOf ws .header) ws) (d - viewOf ws .header .min)) where
+      (same : word (mapOf (viewOf ws .header) ws) (c - viewOf ws .header .min)
+      ≡ word (mapOf (viewOf ws .header) ws) (d - viewOf ws .header .min)) where
     abbrev left : Glyph
     left = shownAt (c - viewOf ws .header .min) c
 
@@ -80,7 +81,8 @@ module _ (ws : List ℕ) (indexed : index (viewOf ws .header) ≡ true) where
 
 -- "Each body has its own ascent, and its rows are placed by that": in a font of every kind
 pub own-rows : (ws : List ℕ) (c : ℕ)
-    → let s = strikeNamed (viewOf ws .header) (strikeIn (viewOf ws) ws) ws (placeOfCode (viewOf ws .header) (strikeIn (viewOf ws) ws) ws c) in
+    → let k = placeOfCode (viewOf ws .header) (strikeIn (viewOf ws) ws) ws c in
+    let s = strikeNamed (viewOf ws .header) (strikeIn (viewOf ws) ws) ws k in
     (faceOf ws .glyph c .ascent ≡ s .body .ascent) × (faceOf ws .glyph c .height ≡ height (s .body))
 unfolding faceOf faceFrom glyphFrom glyphBy pictureOf
 own-rows ws c = (refl, refl)
