@@ -6,7 +6,7 @@ ghost use Rattle.convert.specs.Cu.{char_words, chars, bad_size, bad_count, place
 
 // What all characters of a file share: the origin's column; the left column and the top row of the box round all their dots, in columns and rows of
 // the raster; and the box words.
-#[derive(Drop)]
+#[derive(Clone, Copy)]
 pub struct Frame {
     pub origin: u16,
     pub left: u16,
@@ -18,14 +18,14 @@ pub struct Frame {
 }
 
 // Where each code stands in the file, 0 for a code that is absent; and whether a code is over 255 or there twice.
-#[derive(Drop)]
+#[derive(Clone, Copy)]
 pub struct Placed {
     pub places: [usize; 256],
     pub bad: bool,
 }
 
 // What reading a file answers: the number of its refusal, and where that is 0 the places of its codes and the frame.
-#[derive(Drop)]
+#[derive(Clone, Copy)]
 pub struct Source {
     pub number: u32,
     pub places: [usize; 256],

@@ -1,4 +1,6 @@
 // From a CU file to a KernedStrike file. What the characters draw comes from cu.rt; here it is tested and written down, part by part of the file.
+#![tactic(auto)]
+
 mod cu;
 
 ghost use Rattle.std.specs.Prelude.{◌≡◌, ◌+◌, ◌-◌, ◌*◌, ◌%◌, ◌<◌, ◌≤◌, false, cond, not, ◌&&◌, ◌||◌, ◌++◌, ltb, eqb, length, drop};
@@ -12,14 +14,14 @@ ghost use Rattle.convert.specs.Conversion.{conversion_of, output_after, Tells};
 use cu::{Frame, Source};
 
 // What a conversion answers: how many words it wrote, or the number of its refusal.
-#[derive(Drop)]
+#[derive(Clone, Copy)]
 pub enum Conversion {
     Written(usize),
     Refused(u32),
 }
 
 // The numbers that a file is laid out by.
-#[derive(Drop)]
+#[derive(Clone, Copy)]
 struct Layout {
     min: u16,
     max: u16,
@@ -30,7 +32,7 @@ struct Layout {
 }
 
 // What stands in columns of the strike: a character's raster from its top row and left column on, the dummy's block, or nothing.
-#[derive(Drop)]
+#[derive(Clone, Copy)]
 enum Picture {
     Raster { place: usize, top: u16, left: u32 },
     Block,

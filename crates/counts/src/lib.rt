@@ -1,6 +1,7 @@
 // The lit dots of the thirty-two strips, kept beside the panel by value: painting, applying and clearing hand back the new counts.
+#![tactic(auto)]
+
 ghost use Rattle.std.specs.Prelude.{◌≡◌, [], ◌∷◌, true, false, cond, eqb, ltb, ◌+◌, ◌-◌, ◌*◌, ◌≤◌, ◌<◌, length, set};
-ghost use Rattle.words.specs.Lent.{given, after};
 ghost use Rattle.words.specs.Word.{word, table};
 ghost use Rattle.fonts.specs.Face.{face_from};
 ghost use Rattle.paint.specs.Panel.{bad_panel};
@@ -18,21 +19,21 @@ use paint::{Label, Reply, Shape, Strip};
 use words::Effect;
 
 // What painting answers: its reply and the counts.
-#[derive(Drop)]
+#[derive(Clone, Copy)]
 pub struct Painted {
     pub reply: Reply,
     pub counts: [u32; 32],
 }
 
 // What applying and clearing answer: the number and the counts.
-#[derive(Drop)]
+#[derive(Clone, Copy)]
 pub struct Settled {
     pub number: u32,
     pub counts: [u32; 32],
 }
 
 // The words that hold the columns of a strip, in some rows of a panel.
-#[derive(Drop)]
+#[derive(Clone, Copy)]
 pub struct Band {
     // How many rows, and in each how many words behind the first.
     pub rows: usize,
@@ -46,14 +47,14 @@ pub struct Band {
 }
 
 // Some rows of a panel.
-#[derive(Drop)]
+#[derive(Clone, Copy)]
 pub struct Rows {
     pub first: usize,
     pub count: usize,
 }
 
 // The count of a label's strip, and how many dots of it are lit in the rows that the label may reach.
-#[derive(Drop)]
+#[derive(Clone, Copy)]
 pub struct Tally {
     pub held: u32,
     pub lit: u32,
@@ -110,7 +111,7 @@ fn moved(held: u32, more: u32, fewer: u32) -> u32
 impl Rows {
     // Those that the pictures of a label may reach.
     fn reached(font: &[u16], v: View, s: Shape, l: Label) -> Rows
-        ensures { result ≡ rows_reached v (given font) s l }
+        ensures { result ≡ rows_reached v font.now s l }
     {
         let rows = s.rows as usize;
         let y = words::place_of(l.y);
@@ -135,7 +136,7 @@ fn four(a: u16, b: u16, c: u16, d: u16) -> u64
 
 fn four_words(panel: &[u16], i: usize) -> u64
     requires { (i ≤ 131071) × (i + 3 < length panel.now) }
-    ensures { result ≡ four_at (word (given panel)) i }
+    ensures { result ≡ four_at (word panel.now) i }
 {
     four(panel[i], panel[i + 1], panel[i + 2], panel[i + 3])
 }
@@ -143,7 +144,7 @@ fn four_words(panel: &[u16], i: usize) -> u64
 // Word i of a panel, as a sheet, applied, would leave it.
 fn left_word(keep: &[u16], flip: &[u16], panel: &[u16], i: usize) -> u16
     requires { (i ≤ 131071) × (i < length keep.now) × (i < length flip.now) × (i < length panel.now) }
-    ensures { result ≡ applied_word (sheet_of (given keep) (given flip)) (given panel) i }
+    ensures { result ≡ applied_word (sheet_of keep.now flip.now) panel.now i }
 {
     Effect::new(keep[i], flip[i]).apply(panel[i])
 }
@@ -210,7 +211,7 @@ impl Band {
     // The lit dots in word w of each row.
     fn lit_in_one(self, panel: &[u16], w: usize) -> u32
         requires { Inside self (length panel.now) × (w ≤ self.last) }
-        ensures value { result ≡ lit_in_word self (word (given panel)) w self.rows }
+        ensures value { result ≡ lit_in_word self (word panel.now) w self.rows }
         ensures near { result ≤ 4096 }
     {
         let mask = self.mask(w);
@@ -228,7 +229,7 @@ impl Band {
     // The lit dots in the four words of each row from word w on.
     fn lit_in_four(self, panel: &[u16], w: usize) -> u32
         requires { Inside self (length panel.now) × (w + 3 ≤ self.last) }
-        ensures w_value { result + lit_in_words self (word (given panel)) w ≡ lit_in_words self (word (given panel)) (w + 4) }
+        ensures w_value { result + lit_in_words self (word panel.now) w ≡ lit_in_words self (word panel.now) (w + 4) }
         ensures near { result ≤ 16384 }
     {
         let mask = self.masks(w);
@@ -246,7 +247,7 @@ impl Band {
     // All its lit dots. A strip has at most five words in a row: four are counted at once, where there are so many.
     fn lit(self, panel: &[u16]) -> u32
         requires { Inside self (length panel.now) }
-        ensures value { result ≡ lit_in_words self (word (given panel)) (self.last + 1) }
+        ensures value { result ≡ lit_in_words self (word panel.now) (self.last + 1) }
         ensures near { result ≤ 1048576 }
     {
         let mut sum = 0;
@@ -266,7 +267,7 @@ impl Band {
     fn left_in_one(self, keep: &[u16], flip: &[u16], panel: &[u16], w: usize) -> u32
         requires inside { Inside self (length panel.now) × (w ≤ self.last) }
         requires inside_2 { Inside self (length keep.now) × Inside self (length flip.now) }
-        ensures value { result ≡ lit_in_word self (applied_word (sheet_of (given keep) (given flip)) (given panel)) w self.rows }
+        ensures value { result ≡ lit_in_word self (applied_word (sheet_of keep.now flip.now) panel.now) w self.rows }
         ensures near { result ≤ 4096 }
     {
         let mask = self.mask(w);
@@ -285,7 +286,7 @@ impl Band {
     fn left(self, keep: &[u16], flip: &[u16], panel: &[u16]) -> u32
         requires inside { Inside self (length panel.now) }
         requires inside_2 { Inside self (length keep.now) × Inside self (length flip.now) }
-        ensures value { result ≡ lit_in_words self (applied_word (sheet_of (given keep) (given flip)) (given panel)) (self.last + 1) }
+        ensures value { result ≡ lit_in_words self (applied_word (sheet_of keep.now flip.now) panel.now) (self.last + 1) }
         ensures near { result ≤ 1048576 }
     {
         let mut sum = 0;
@@ -301,7 +302,7 @@ impl Band {
 // Copies the words of a band that has one row to where they stand in a row of their own.
 fn copy_row(panel: &[u16], from: Band, to: Band, space: &mut [u16; 128])
     requires { (from.at + from.last < length panel.now) × (to.at + from.last ≤ 127) × (from.at ≤ 65535) }
-    ensures { after space ≡ copied_to (given panel) from.at to.at (from.last + 1) (given space) }
+    ensures { space.new ≡ copied_to panel.now from.at to.at (from.last + 1) space.old }
 {
     let mut i = 0;
     while i <= from.last {
@@ -321,7 +322,7 @@ fn left_in_row(
     row: usize,
 ) -> u32
     requires { (number_with s (length panel.now ∷ []) l (length text.now) ≡ 0) × (row < s.rows) }
-    ensures value { result ≡ lit_in s l.strip row 1 (paint_with (face_from v (given font)) s l (given text) (given panel)) }
+    ensures value { result ≡ lit_in s l.strip row 1 (paint_with (face_from v font.now) s l text.now panel.now) }
     ensures near { result ≤ 1048576 }
 {
     let alone = Band::of(s, l.strip, 0, 1);
@@ -334,7 +335,7 @@ fn left_in_row(
 // The lit dots of strip k in some rows.
 fn lit_in(rows: Rows, s: Shape, k: u32, panel: &[u16]) -> u32
     requires { (bad_panel s (length panel.now ∷ []) ≡ false) × (k ≤ 31) × (rows.first + rows.count ≤ s.rows) }
-    ensures value { result ≡ lit_in s k rows.first rows.count (given panel) }
+    ensures value { result ≡ lit_in s k rows.first rows.count panel.now }
     ensures near { result ≤ 1048576 }
 {
     Band::of(s, k, rows.first, rows.count).lit(panel)
@@ -343,7 +344,7 @@ fn lit_in(rows: Rows, s: Shape, k: u32, panel: &[u16]) -> u32
 // In the rows that its pictures may reach.
 fn left_by_label(font: &[u16], v: View, s: Shape, l: Label, text: &[u8], panel: &[u16]) -> u32
     requires { number_with s (length panel.now ∷ []) l (length text.now) ≡ 0 }
-    ensures { result ≡ left_reached v (given font) s l (given text) (given panel) }
+    ensures { result ≡ left_reached v font.now s l text.now panel.now }
 {
     let rows = Rows::reached(font, v, s, l);
     let mut sum = 0;
@@ -370,7 +371,7 @@ fn sure(s: Shape, rows: Rows, t: Tally) -> bool
 // An accepted label is refused by 30 for its own strip's count. Only where that is not sure what the label would leave is found out.
 fn refuses(font: &[u16], v: View, s: Shape, l: Label, text: &[u8], panel: &[u16], t: Tally) -> bool
     requires { number_with s (length panel.now ∷ []) l (length text.now) ≡ 0 }
-    ensures { result ≡ leaves (s.width * s.rows) t.held (left_reached v (given font) s l (given text) (given panel)) t.lit }
+    ensures { result ≡ leaves (s.width * s.rows) t.held (left_reached v font.now s l text.now panel.now) t.lit }
 {
     if sure(s, Rows::reached(font, v, s, l), t) {
         return false;
@@ -418,8 +419,8 @@ fn paint_accepted(
 ) -> Painted
     requires read { Read v font.now }
     requires text_value { (number_with s (length panel.old ∷ []) l (length text.now) ≡ 0) × (some_over s counts ≡ false) }
-    ensures value { result ≡ painted_of s (call_of (given font) l (given text)) (given panel) counts }
-    ensures panel { after panel ≡ (paint_counted s (call_of (given font) l (given text)) (given panel) counts).panel }
+    ensures value { result ≡ painted_of s (call_of font.now l text.now) panel.old counts }
+    ensures panel { panel.new ≡ (paint_counted s (call_of font.now l text.now) panel.old counts).panel }
 {
     let rows = Rows::reached(font, v, s, l);
     let t = Tally {
@@ -448,8 +449,8 @@ fn paint_label(
     counts: [u32; 32],
 ) -> Painted
     requires { Read v font.now }
-    ensures value { result ≡ painted_of s (call_of (given font) l (given text)) (given panel) counts }
-    ensures panel { after panel ≡ (paint_counted s (call_of (given font) l (given text)) (given panel) counts).panel }
+    ensures value { result ≡ painted_of s (call_of font.now l text.now) panel.old counts }
+    ensures panel { panel.new ≡ (paint_counted s (call_of font.now l text.now) panel.old counts).panel }
 {
     let refusal = paint::number_with(s, panel.len(), l, text.len());
     if refusal != 0 {
@@ -470,9 +471,9 @@ pub fn paint(
     panel: &mut [u16],
     counts: [u32; 32],
 ) -> Painted
-    ensures value { result ≡ painted_of s (call_of (given font) l (given text)) (given panel) counts }
-    ensures panel { after panel ≡ (paint_counted s (call_of (given font) l (given text)) (given panel) counts).panel }
-    ensures numbers { TellsPainted result.reply s (call_of (given font) l (given text)) (given panel) counts }
+    ensures value { result ≡ painted_of s (call_of font.now l text.now) panel.old counts }
+    ensures panel { panel.new ≡ (paint_counted s (call_of font.now l text.now) panel.old counts).panel }
+    ensures numbers { TellsPainted result.reply s (call_of font.now l text.now) panel.old counts }
 {
     match fonts::read(font) {
         Reading::Refused(number) => refused(number, counts),
@@ -483,7 +484,7 @@ pub fn paint(
 // The lit dots of every strip.
 fn lit_of(s: Shape, panel: &[u16]) -> [u32; 32]
     requires { bad_panel s (length panel.now ∷ []) ≡ false }
-    ensures { result ≡ table 32 (λ k. lit s k (given panel)) }
+    ensures { result ≡ table 32 (λ k. lit s k panel.now) }
 {
     let mut lit = [0u32; 32];
     let mut k = 0;
@@ -497,7 +498,7 @@ fn lit_of(s: Shape, panel: &[u16]) -> [u32; 32]
 // Those that a sheet, applied, would leave lit.
 fn left_by_sheet(s: Shape, keep: &[u16], flip: &[u16], panel: &[u16]) -> [u32; 32]
     requires { apply_number s (sheet_of keep.now flip.now) panel.now ≡ 0 }
-    ensures { result ≡ table 32 (λ k. lit s k (apply_after s (sheet_of (given keep) (given flip)) (given panel))) }
+    ensures { result ≡ table 32 (λ k. lit s k (apply_after s (sheet_of keep.now flip.now) panel.now)) }
 {
     let mut left = [0u32; 32];
     let mut k = 0;
@@ -537,8 +538,8 @@ fn settle(s: Shape, counts: [u32; 32], left: [u32; 32], lit: [u32; 32]) -> Settl
 
 // Applies a sheet to a panel, and hands back the new counts.
 pub fn apply(s: Shape, keep: &[u16], flip: &[u16], panel: &mut [u16], counts: [u32; 32]) -> Settled
-    ensures value { result ≡ settled_of (apply_counted s (sheet_of (given keep) (given flip)) (given panel) counts) }
-    ensures panel { after panel ≡ (apply_counted s (sheet_of (given keep) (given flip)) (given panel) counts).panel }
+    ensures value { result ≡ settled_of (apply_counted s (sheet_of keep.now flip.now) panel.old counts) }
+    ensures panel { panel.new ≡ (apply_counted s (sheet_of keep.now flip.now) panel.old counts).panel }
 {
     let sheet = words::least(keep.len(), flip.len());
     if paint::bad_panel(s, words::least(sheet, panel.len())) {
@@ -555,8 +556,8 @@ pub fn apply(s: Shape, keep: &[u16], flip: &[u16], panel: &mut [u16], counts: [u
 
 // Clears a panel, and hands back the new counts.
 pub fn clear(s: Shape, panel: &mut [u16], counts: [u32; 32]) -> Settled
-    ensures value { result ≡ settled_of (clear_counted s (given panel) counts) }
-    ensures panel { after panel ≡ (clear_counted s (given panel) counts).panel }
+    ensures value { result ≡ settled_of (clear_counted s panel.old counts) }
+    ensures panel { panel.new ≡ (clear_counted s panel.old counts).panel }
 {
     if paint::bad_panel(s, panel.len()) {
         return Settled { number: 8, counts };

@@ -1,7 +1,8 @@
 // The label software for C programs: `include/pailradish.h` declares these functions, and `rt staticlib desk` makes their archive.
 // The desk's own two calls are handed bytes; the others are thin over the functions of their names.
+#![tactic(auto)]
+
 ghost use Rattle.std.specs.Prelude.{◌≡◌, length};
-ghost use Rattle.words.specs.Lent.{given, after};
 ghost use Rattle.fontbytes.specs.File.{file_number};
 ghost use Rattle.convert.specs.Conversion.{conversion_of, output_after};
 ghost use Rattle.paint.specs.Sheet.{sheet_of};
@@ -16,7 +17,7 @@ use paint::{Label, Reply, Shape};
 
 // One label call as C hands it: on which panel, and where.
 #[repr(C)]
-#[derive(Drop)]
+#[derive(Clone, Copy)]
 pub struct Call {
     pub shape: Shape,
     pub label: Label,
@@ -24,7 +25,7 @@ pub struct Call {
 
 // What measuring, painting and gathering answer. Beside the number of a refusal stand zeros.
 #[repr(C)]
-#[derive(Drop)]
+#[derive(Clone, Copy)]
 pub struct Answer {
     pub number: u32,
     pub pen: i32,
@@ -33,14 +34,14 @@ pub struct Answer {
 
 // The lit dots of each strip.
 #[repr(C)]
-#[derive(Drop)]
+#[derive(Clone, Copy)]
 pub struct Counts {
     pub lit: [u32; 32],
 }
 
 // What painting answers: that, and the counts.
 #[repr(C)]
-#[derive(Drop)]
+#[derive(Clone, Copy)]
 pub struct Painted {
     pub answer: Answer,
     pub counts: Counts,
@@ -48,7 +49,7 @@ pub struct Painted {
 
 // What applying and clearing answer: the number and the counts.
 #[repr(C)]
-#[derive(Drop)]
+#[derive(Clone, Copy)]
 pub struct Settled {
     pub number: u32,
     pub counts: Counts,
@@ -56,7 +57,7 @@ pub struct Settled {
 
 // What converting, and making words of bytes, answer.
 #[repr(C)]
-#[derive(Drop)]
+#[derive(Clone, Copy)]
 pub struct Written {
     pub number: u32,
     pub words: usize,
@@ -91,7 +92,7 @@ fn written_of(conversion: Conversion) -> Written
 // Checks the bytes of a font file.
 #[unsafe(no_mangle)]
 pub extern "C" fn pailradish_check(font: &[u8]) -> u32
-    ensures { result ≡ file_number (given font) }
+    ensures { result ≡ file_number font.now }
 {
     fontbytes::number(font)
 }
@@ -99,13 +100,13 @@ pub extern "C" fn pailradish_check(font: &[u8]) -> u32
 // Measures a label with the font in these bytes.
 #[unsafe(no_mangle)]
 pub extern "C" fn pailradish_measure(font: &[u8], x: i32, text: &[u8]) -> Answer
-    ensures { result ≡ answer_of (measure_file (given font) x (given text)) }
+    ensures { result ≡ answer_of (measure_file font.now x text.now) }
 {
     answer_of(paint::measure_bytes(font, x, text))
 }
 
 fn words_number(bytes: &[u8], room: usize) -> u32
-    ensures { result ≡ words_number (given bytes) room }
+    ensures { result ≡ words_number bytes.now room }
 {
     if words::odd_bytes(bytes) {
         return 14;
@@ -119,8 +120,8 @@ fn words_number(bytes: &[u8], room: usize) -> u32
 // The words that bytes spell, high byte first: the step from a file to what painting takes.
 #[unsafe(no_mangle)]
 pub extern "C" fn pailradish_words(bytes: &[u8], out: &mut [u16]) -> Written
-    ensures value { result ≡ words_answer (given bytes) (length (given out)) }
-    ensures out { after out ≡ words_after (given bytes) (given out) }
+    ensures value { result ≡ words_answer bytes.now (length out.old) }
+    ensures out { out.new ≡ words_after bytes.now out.old }
 {
     let number = words_number(bytes, out.len());
     if number != 0 {
@@ -161,8 +162,8 @@ pub extern "C" fn pailradish_paint(
     panel: &mut [u16],
     counts: Counts,
 ) -> Painted
-    ensures value { result ≡ painted_from (painted_of c.shape (call_from (given font) c (given text)) (given panel) counts.lit) }
-    ensures panel { after panel ≡ (counted_by c (given font) (given text) (given panel) counts.lit).panel }
+    ensures value { result ≡ painted_from (painted_of c.shape (call_from font.now c text.now) panel.old counts.lit) }
+    ensures panel { panel.new ≡ (counted_by c font.now text.now panel.old counts.lit).panel }
 {
     let lit = counts.lit;
     painted_of(counts::paint(font, c.shape, c.label, text, panel, lit))
@@ -170,9 +171,9 @@ pub extern "C" fn pailradish_paint(
 
 #[unsafe(no_mangle)]
 pub extern "C" fn pailradish_fresh(s: Shape, keep: &mut [u16], flip: &mut [u16]) -> u32
-    ensures value { result ≡ fresh_number s (sheet_of (given keep) (given flip)) }
-    ensures keep { after keep ≡ (fresh_after s (sheet_of (given keep) (given flip))).keep }
-    ensures flip { after flip ≡ (fresh_after s (sheet_of (given keep) (given flip))).flip }
+    ensures value { result ≡ fresh_number s (sheet_of keep.old flip.old) }
+    ensures keep { keep.new ≡ (fresh_after s (sheet_of keep.old flip.old)).keep }
+    ensures flip { flip.new ≡ (fresh_after s (sheet_of keep.old flip.old)).flip }
 {
     sheets::fresh(s, keep, flip)
 }
@@ -185,9 +186,9 @@ pub extern "C" fn pailradish_gather(
     keep: &mut [u16],
     flip: &mut [u16],
 ) -> Answer
-    ensures value { result ≡ answer_of (gather_reply c.shape (call_from (given font) c (given text)) (sheet_of (given keep) (given flip))) }
-    ensures keep { after keep ≡ (gathered_by c (given font) (given text) (sheet_of (given keep) (given flip))).keep }
-    ensures flip { after flip ≡ (gathered_by c (given font) (given text) (sheet_of (given keep) (given flip))).flip }
+    ensures value { result ≡ answer_of (gather_reply c.shape (call_from font.now c text.now) (sheet_of keep.old flip.old)) }
+    ensures keep { keep.new ≡ (gathered_by c font.now text.now (sheet_of keep.old flip.old)).keep }
+    ensures flip { flip.new ≡ (gathered_by c font.now text.now (sheet_of keep.old flip.old)).flip }
 {
     answer_of(sheets::gather(font, c.shape, c.label, text, keep, flip))
 }
@@ -200,9 +201,9 @@ pub extern "C" fn pailradish_join(
     keep2: &[u16],
     flip2: &[u16],
 ) -> u32
-    ensures value { result ≡ join_number s (sheet_of (given keep) (given flip)) (sheet_of (given keep2) (given flip2)) }
-    ensures keep { after keep ≡ (join_after s (sheet_of (given keep) (given flip)) (sheet_of (given keep2) (given flip2))).keep }
-    ensures flip { after flip ≡ (join_after s (sheet_of (given keep) (given flip)) (sheet_of (given keep2) (given flip2))).flip }
+    ensures value { result ≡ join_number s (sheet_of keep.old flip.old) (sheet_of keep2.now flip2.now) }
+    ensures keep { keep.new ≡ (join_after s (sheet_of keep.old flip.old) (sheet_of keep2.now flip2.now)).keep }
+    ensures flip { flip.new ≡ (join_after s (sheet_of keep.old flip.old) (sheet_of keep2.now flip2.now)).flip }
 {
     sheets::join(s, keep, flip, keep2, flip2)
 }
@@ -215,8 +216,8 @@ pub extern "C" fn pailradish_apply(
     panel: &mut [u16],
     counts: Counts,
 ) -> Settled
-    ensures value { result ≡ settled_from (settled_of (apply_counted s (sheet_of (given keep) (given flip)) (given panel) counts.lit)) }
-    ensures panel { after panel ≡ (apply_counted s (sheet_of (given keep) (given flip)) (given panel) counts.lit).panel }
+    ensures value { result ≡ settled_from (settled_of (apply_counted s (sheet_of keep.now flip.now) panel.old counts.lit)) }
+    ensures panel { panel.new ≡ (apply_counted s (sheet_of keep.now flip.now) panel.old counts.lit).panel }
 {
     let lit = counts.lit;
     settled_of(counts::apply(s, keep, flip, panel, lit))
@@ -224,8 +225,8 @@ pub extern "C" fn pailradish_apply(
 
 #[unsafe(no_mangle)]
 pub extern "C" fn pailradish_clear(s: Shape, panel: &mut [u16], counts: Counts) -> Settled
-    ensures value { result ≡ settled_from (settled_of (clear_counted s (given panel) counts.lit)) }
-    ensures panel { after panel ≡ (clear_counted s (given panel) counts.lit).panel }
+    ensures value { result ≡ settled_from (settled_of (clear_counted s panel.old counts.lit)) }
+    ensures panel { panel.new ≡ (clear_counted s panel.old counts.lit).panel }
 {
     let lit = counts.lit;
     settled_of(counts::clear(s, panel, lit))
@@ -233,8 +234,8 @@ pub extern "C" fn pailradish_clear(s: Shape, panel: &mut [u16], counts: Counts) 
 
 #[unsafe(no_mangle)]
 pub extern "C" fn pailradish_convert(cu: &[u16], out: &mut [u16]) -> Written
-    ensures value { result ≡ written_of (conversion_of (given cu) (length (given out))) }
-    ensures out { after out ≡ output_after (given cu) (given out) }
+    ensures value { result ≡ written_of (conversion_of cu.now (length out.old)) }
+    ensures out { out.new ≡ output_after cu.now out.old }
 {
     written_of(convert::convert(cu, out))
 }

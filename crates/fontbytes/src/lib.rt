@@ -1,4 +1,6 @@
 // Strike files as bytes, read where they lie. The font reader decides everything, by values; here is how these are found in bytes.
+#![tactic(auto)]
+
 ghost use Rattle.std.specs.Prelude.{◌≡◌, true, ◌+◌, ◌-◌, ◌≤◌, length};
 ghost use Rattle.words.specs.Word.{word, words_of};
 ghost use Rattle.words.specs.Search.{some_below};

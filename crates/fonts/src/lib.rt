@@ -1,6 +1,7 @@
 // Reading Strike files of the four kinds, with an index and without: what a file is refused for, and what it shows for a code.
+#![tactic(auto)]
+
 ghost use Rattle.std.specs.Prelude.{◌≡◌, cond, true, ◌||◌, ltb, length, ◌+◌, ◌-◌, ◌*◌, ◌≤◌, min, max};
-ghost use Rattle.words.specs.Lent.{given, after};
 ghost use Rattle.words.specs.Word.{word, over};
 ghost use Rattle.words.specs.Search.{some_below};
 ghost use Rattle.fonts.specs.Strike.{kerned_format, index_format, count_at, header_by, header_of, body_of, view_of, kerned, index, codes};
@@ -17,7 +18,7 @@ ghost use Rattle.fonts.specs.Kinds.{only_bitmap, there, glyph_in, step_by, glyph
 
 // The words at the front of a font file that the reader looks at. A plain file has no box, and its fbbox is 0; a file without an index has
 // one body.
-#[derive(Drop)]
+#[derive(Clone, Copy)]
 pub struct Header {
     pub format: u16,
     pub min: u16,
@@ -27,7 +28,7 @@ pub struct Header {
 }
 
 // The head of a strike's body, which stands before the bitmap.
-#[derive(Drop)]
+#[derive(Clone, Copy)]
 pub struct Body {
     pub words: u16,
     pub ascent: u16,
@@ -37,35 +38,35 @@ pub struct Body {
 }
 
 // A body of a font: where its bitmap begins in the file, and its head.
-#[derive(Drop)]
+#[derive(Clone, Copy)]
 pub struct Strike {
     pub bitmap: u32,
     pub body: Body,
 }
 
 // What finds every glyph of a font that has been read: the words at the front, and the head of the first body.
-#[derive(Drop)]
+#[derive(Clone, Copy)]
 pub struct View {
     pub header: Header,
     pub body: Body,
 }
 
 // What checking the bodies of a font finds: the number of a refusal, or 0 and the fewest pointers that one of them has.
-#[derive(Drop)]
+#[derive(Clone, Copy)]
 pub struct Bodies {
     pub number: u32,
     pub fewest: u16,
 }
 
 // What reading a font answers.
-#[derive(Drop)]
+#[derive(Clone, Copy)]
 pub enum Reading {
     Accepted(View),
     Refused(u32),
 }
 
 // What a map entry names: a body, and a code in it, or that there is none.
-#[derive(Drop)]
+#[derive(Clone, Copy)]
 pub struct Name {
     pub missing: bool,
     pub body: usize,
@@ -73,7 +74,7 @@ pub struct Name {
 }
 
 // What the map and the width entries say of what is shown for a code: the two entries, and whether they are the dummy's.
-#[derive(Drop)]
+#[derive(Clone, Copy)]
 pub struct Named {
     pub entry: u16,
     pub width: u16,
@@ -81,7 +82,7 @@ pub struct Named {
 }
 
 // What the tables say of a code: the columns from left up to, and without, right, and the width entry.
-#[derive(Drop)]
+#[derive(Clone, Copy)]
 pub struct Entry {
     pub left: u16,
     pub right: u16,
@@ -89,21 +90,21 @@ pub struct Entry {
 }
 
 // The rows that some picture of a font may have above the baseline, and below.
-#[derive(Drop)]
+#[derive(Clone, Copy)]
 pub struct Extent {
     pub above: u16,
     pub below: u16,
 }
 
 // How a character moves the pen, and whether the dummy stood in for its code.
-#[derive(Drop)]
+#[derive(Clone, Copy)]
 pub struct Step {
     pub advance: u16,
     pub substitute: bool,
 }
 
 // What a font shows for a code.
-#[derive(Drop)]
+#[derive(Clone, Copy)]
 pub struct Glyph {
     // Where its strike's bitmap begins in the file, and the words of one row of it.
     pub bitmap: u32,
@@ -359,7 +360,7 @@ pub fn map(font: &[u16], h: Header) -> &[u16]
 
 // Writes into a table where the bitmap of each body begins: found by walking over the bodies once. What the table has behind them stays.
 pub fn find_bitmaps(font: &[u16], h: Header, table: &mut [u32])
-    ensures { after table ≡ over (min (length (given table)) h.bodies) (bitmap_start h (given font)) (given table) }
+    ensures { table.new ≡ over (min (length table.old) h.bodies) (bitmap_start h font.now) table.old }
 {
     let count = words::least(table.len(), h.bodies as usize);
     let mut at = h.first_at();

@@ -1,6 +1,7 @@
 // Measuring labels, painting them into the strips of a panel, and joining them onto sheets.
+#![tactic(auto)]
+
 ghost use Rattle.std.specs.Prelude.{◌≡◌, [], ◌∷◌, true, false, cond, ◌+◌, ◌-◌, ◌*◌, ◌≤◌, ◌<◌, min, max, eqb, ltb, length};
-ghost use Rattle.words.specs.Lent.{given, after};
 ghost use Rattle.words.specs.Place.{number_at};
 ghost use Rattle.words.specs.Word.{words_of};
 ghost use Rattle.words.specs.Effect.{effect_of, mode_of, apply_to, cleared};
@@ -25,7 +26,7 @@ use words::{Effect, Mode};
 
 // The size of a panel: words per row, rows, and the columns of a strip.
 #[repr(C)]
-#[derive(Drop)]
+#[derive(Clone, Copy)]
 pub struct Shape {
     pub rowwords: u32,
     pub rows: u32,
@@ -34,7 +35,7 @@ pub struct Shape {
 
 // Where a label goes, and how: its strip, the starting pen in strip columns, the row of the baseline, and the mode by its number.
 #[repr(C)]
-#[derive(Drop)]
+#[derive(Clone, Copy)]
 pub struct Label {
     pub strip: u32,
     pub x: i32,
@@ -43,14 +44,14 @@ pub struct Label {
 }
 
 // The columns of the panel from `from` up to, and without, `upto`.
-#[derive(Drop)]
+#[derive(Clone, Copy)]
 pub struct Strip {
     pub from: usize,
     pub upto: usize,
 }
 
 // What the characters of one label share. y counts from 2048 rows above the panel.
-#[derive(Drop)]
+#[derive(Clone, Copy)]
 pub struct Stroke {
     pub rowwords: usize,
     pub rows: usize,
@@ -60,7 +61,7 @@ pub struct Stroke {
 }
 
 // What a picture reaches of the panel, and where the font has the dots of it.
-#[derive(Drop)]
+#[derive(Clone, Copy)]
 pub struct Reach {
     // How many rows, and in each how many words behind the first.
     pub rows: usize,
@@ -78,21 +79,21 @@ pub struct Reach {
 }
 
 // Where the next character goes, in strip columns counted from 2048 to the left of the strip, and the substitutes so far.
-#[derive(Drop)]
+#[derive(Clone, Copy)]
 pub struct Pen {
     pub place: usize,
     pub substitutes: usize,
 }
 
 // How an accepted call ends: the last pen, and the substitutes.
-#[derive(Drop)]
+#[derive(Clone, Copy)]
 pub struct Finish {
     pub pen: i32,
     pub substitutes: u32,
 }
 
 // What painting, gathering and measuring answer.
-#[derive(Drop)]
+#[derive(Clone, Copy)]
 pub enum Reply {
     Done(Finish),
     Refused(u32),
@@ -234,7 +235,7 @@ fn done(last: Pen) -> Reply
 fn pen_along(font: &[u16], v: View, start: Pen, text: &[u8]) -> Pen
     requires starting { Starting start }
     requires text_len_bound { length text.now ≤ 64 }
-    ensures value { result ≡ pen_along (steps_of (face_from v (given font))) start (given text) }
+    ensures value { result ≡ pen_along (steps_of (face_from v font.now)) start text.now }
     ensures near { Near result }
 {
     let bitmaps = fonts::bitmaps(font, v.header);
@@ -258,7 +259,7 @@ fn pen_along_bytes(
 ) -> Pen
     requires starting { Starting start }
     requires text_len_bound { length text.now ≤ 64 }
-    ensures value { result ≡ pen_along (spelt_steps h (given pointers) (given widths) dummy) start (given text) }
+    ensures value { result ≡ pen_along (spelt_steps h pointers.now widths.now dummy) start text.now }
     ensures near { Near result }
 {
     let mut pen = start;
@@ -274,7 +275,7 @@ fn pen_along_bytes(
 fn pen_along_map(font: &[u8], v: View, start: Pen, text: &[u8]) -> Pen
     requires starting { Starting start }
     requires text_len_bound { length text.now ≤ 64 }
-    ensures value { result ≡ pen_along (steps_of (face_from v (words_of (given font)))) start (given text) }
+    ensures value { result ≡ pen_along (steps_of (face_from v (words_of font.now))) start text.now }
     ensures near { Near result }
 {
     let bitmaps = fontbytes::bitmaps(font, v.header);
@@ -289,7 +290,7 @@ fn pen_along_map(font: &[u8], v: View, start: Pen, text: &[u8]) -> Pen
 
 fn last_pen_in_bytes(font: &[u8], v: View, x: i32, text: &[u8]) -> Pen
     requires { length text.now ≤ 64 }
-    ensures value { result ≡ last_pen (face_from v (words_of (given font))) x (given text) }
+    ensures value { result ≡ last_pen (face_from v (words_of font.now)) x text.now }
     ensures near { Near result }
 {
     let h = v.header;
@@ -317,7 +318,7 @@ fn measure_number(at: i32, count: usize) -> u32
 
 // Measuring with a font that has been read.
 fn measure_read(font: &[u16], v: View, x: i32, text: &[u8]) -> Reply
-    ensures { result ≡ measure_with (face_from v (given font)) x (given text) }
+    ensures { result ≡ measure_with (face_from v font.now) x text.now }
 {
     let refusal = measure_number(x, text.len());
     if refusal != 0 {
@@ -328,8 +329,8 @@ fn measure_read(font: &[u16], v: View, x: i32, text: &[u8]) -> Reply
 
 // The reply of an accepted painting, with no panel.
 pub fn measure(font: &[u16], x: i32, text: &[u8]) -> Reply
-    ensures value { result ≡ measure_of (given font) x (given text) }
-    ensures numbers { TellsMeasure result (font_number (given font)) (given font) x (given text) }
+    ensures value { result ≡ measure_of font.now x text.now }
+    ensures numbers { TellsMeasure result (font_number font.now) font.now x text.now }
 {
     match fonts::read(font) {
         Reading::Refused(number) => Reply::Refused(number),
@@ -339,7 +340,7 @@ pub fn measure(font: &[u16], x: i32, text: &[u8]) -> Reply
 
 // Measuring with a font in bytes that has been read.
 fn measure_read_bytes(font: &[u8], v: View, x: i32, text: &[u8]) -> Reply
-    ensures { result ≡ measure_with (face_from v (words_of (given font))) x (given text) }
+    ensures { result ≡ measure_with (face_from v (words_of font.now)) x text.now }
 {
     let refusal = measure_number(x, text.len());
     if refusal != 0 {
@@ -350,8 +351,8 @@ fn measure_read_bytes(font: &[u8], v: View, x: i32, text: &[u8]) -> Reply
 
 // Measuring with the font in bytes, which are read where they lie.
 pub fn measure_bytes(font: &[u8], x: i32, text: &[u8]) -> Reply
-    ensures value { result ≡ measure_file (given font) x (given text) }
-    ensures numbers { TellsMeasure result (file_number (given font)) (words_of (given font)) x (given text) }
+    ensures value { result ≡ measure_file font.now x text.now }
+    ensures numbers { TellsMeasure result (file_number font.now) (words_of font.now) x text.now }
 {
     match fontbytes::read(font) {
         Reading::Refused(number) => Reply::Refused(number),
@@ -512,7 +513,7 @@ fn two_words(high: u16, low: u16, shift: usize) -> u16
 // Sixteen bits of a font, from a bit of word i on, where the word behind it is there too.
 fn dots_from(font: &[u16], i: usize, shift: usize) -> u16
     requires { (i ≤ 34359738368) × (shift < 16) × (i + 1 < length font.now) }
-    ensures { result ≡ window (given font) i shift }
+    ensures { result ≡ window font.now i shift }
 {
     two_words(font[i], font[i + 1], shift)
 }
@@ -520,7 +521,7 @@ fn dots_from(font: &[u16], i: usize, shift: usize) -> u16
 // Sixteen bits of a font, from a bit of word i on; there is none past its end.
 fn window(font: &[u16], i: usize, shift: usize) -> u16
     requires { (i ≤ 34359738368) × (shift < 16) }
-    ensures { result ≡ window (given font) i shift }
+    ensures { result ≡ window font.now i shift }
 {
     if i + 1 < font.len() {
         return dots_from(font, i, shift);
@@ -573,7 +574,7 @@ fn under(mode: u32, mask: u16, word: u16) -> u16
 // The dots of a mask on word i of what is lent.
 fn mark(mode: u32, mask: u16, i: usize, lent: &mut [u16])
     requires { i < length lent.old }
-    ensures { after lent ≡ marked (mode_of mode) mask i (given lent) }
+    ensures { lent.new ≡ marked (mode_of mode) mask i lent.old }
 {
     lent[i] = under(mode, mask, lent[i]);
 }
@@ -582,7 +583,7 @@ fn mark(mode: u32, mask: u16, i: usize, lent: &mut [u16])
 fn draw_narrow(font: &[u16], r: Reach, mode: u32, lent: &mut [u16])
     requires within { Within r (length lent.old) }
     requires font_value { spans_in r 0 (length font.now) ≡ true }
-    ensures { after lent ≡ rows_drawn (given font) r (mode_of mode) r.rows (given lent) }
+    ensures { lent.new ≡ rows_drawn font.now r (mode_of mode) r.rows lent.old }
 {
     let mask = r.head & r.tail;
     let mut from = r.source;
@@ -601,7 +602,7 @@ fn draw_narrow(font: &[u16], r: Reach, mode: u32, lent: &mut [u16])
 fn draw_two(font: &[u16], r: Reach, mode: u32, from: usize, at: usize, lent: &mut [u16])
     requires last_in_bounds { (at + r.last < length lent.old) × (at ≤ 98303) × (r.last ≡ 1) }
     requires from_bound { (from ≤ 17196646400) × (r.shift < 16) × (from + r.last + 1 < length font.now) }
-    ensures { after lent ≡ row_drawn (given font) r (mode_of mode) from at (r.last + 1) (given lent) }
+    ensures { lent.new ≡ row_drawn font.now r (mode_of mode) from at (r.last + 1) lent.old }
 {
     let first = dots_from(font, from, r.shift) & r.head;
     mark(mode, first, at, lent);
@@ -613,7 +614,7 @@ fn draw_two(font: &[u16], r: Reach, mode: u32, from: usize, at: usize, lent: &mu
 fn draw_pair(font: &[u16], r: Reach, mode: u32, lent: &mut [u16])
     requires within { Within r (length lent.old) }
     requires font_value { spans_in r 1 (length font.now) ≡ true }
-    ensures { after lent ≡ rows_drawn (given font) r (mode_of mode) r.rows (given lent) }
+    ensures { lent.new ≡ rows_drawn font.now r (mode_of mode) r.rows lent.old }
 {
     let mut from = r.source;
     let mut at = r.at;
@@ -630,7 +631,7 @@ fn draw_pair(font: &[u16], r: Reach, mode: u32, lent: &mut [u16])
 fn draw_line(font: &[u16], r: Reach, mode: u32, from: usize, at: usize, lent: &mut [u16])
     requires last_in_bounds { (at + r.last < length lent.old) × (at ≤ 98303) × (r.last ≤ 255) × (1 ≤ r.last) }
     requires from_bound { (from ≤ 17196646400) × (r.shift < 16) × (from + r.last + 1 < length font.now) }
-    ensures { after lent ≡ row_drawn (given font) r (mode_of mode) from at (r.last + 1) (given lent) }
+    ensures { lent.new ≡ row_drawn font.now r (mode_of mode) from at (r.last + 1) lent.old }
 {
     let mut mask = r.head;
     let mut w = 0;
@@ -648,7 +649,7 @@ fn draw_line(font: &[u16], r: Reach, mode: u32, from: usize, at: usize, lent: &m
 fn draw_wide(font: &[u16], r: Reach, mode: u32, lent: &mut [u16])
     requires within { Within r (length lent.old) × (1 ≤ r.last) }
     requires font_value { in_file r (length font.now) ≡ true }
-    ensures { after lent ≡ rows_drawn (given font) r (mode_of mode) r.rows (given lent) }
+    ensures { lent.new ≡ rows_drawn font.now r (mode_of mode) r.rows lent.old }
 {
     let mut from = r.source;
     let mut at = r.at;
@@ -665,7 +666,7 @@ fn draw_wide(font: &[u16], r: Reach, mode: u32, lent: &mut [u16])
 fn draw_row(font: &[u16], r: Reach, mode: u32, from: usize, at: usize, lent: &mut [u16])
     requires last_in_bounds { (at + r.last < length lent.old) × (at ≤ 98303) × (r.last ≤ 255) }
     requires from_bound { (from ≤ 17196646400) × (r.shift < 16) }
-    ensures { after lent ≡ row_drawn (given font) r (mode_of mode) from at (r.last + 1) (given lent) }
+    ensures { lent.new ≡ row_drawn font.now r (mode_of mode) from at (r.last + 1) lent.old }
 {
     let mut mask = r.head;
     let mut w = 0;
@@ -682,7 +683,7 @@ fn draw_row(font: &[u16], r: Reach, mode: u32, from: usize, at: usize, lent: &mu
 // Such a picture, on the rows that it reaches.
 fn draw_rows(font: &[u16], r: Reach, mode: u32, lent: &mut [u16])
     requires { Within r (length lent.old) }
-    ensures { after lent ≡ rows_drawn (given font) r (mode_of mode) r.rows (given lent) }
+    ensures { lent.new ≡ rows_drawn font.now r (mode_of mode) r.rows lent.old }
 {
     let mut from = r.source;
     let mut at = r.at;
@@ -699,7 +700,7 @@ fn draw_rows(font: &[u16], r: Reach, mode: u32, lent: &mut [u16])
 fn paint_other(font: &[u16], r: Reach, mode: u32, panel: &mut [u16])
     requires within { Within r (length panel.old) }
     requires font_value { spans_in r 0 (length font.now) ≡ false }
-    ensures { after panel ≡ rows_drawn (given font) r (mode_of mode) r.rows (given panel) }
+    ensures { panel.new ≡ rows_drawn font.now r (mode_of mode) r.rows panel.old }
 {
     if r.spans(1, font.len()) {
         draw_pair(font, r, mode, panel);
@@ -716,7 +717,7 @@ fn paint_other(font: &[u16], r: Reach, mode: u32, panel: &mut [u16])
 fn paint_picture(font: &[u16], g: Glyph, k: Stroke, pen: Pen, panel: &mut [u16])
     requires drawable { Drawable k (length panel.old) }
     requires place_le_farthest { (pen.place ≤ farthest) × (1 ≤ g.bitmap) }
-    ensures { after panel ≡ on_panel (picture_effect (dot_of (given font)) k pen g) k (given panel) }
+    ensures { panel.new ≡ on_panel (picture_effect (dot_of font.now) k pen g) k panel.old }
 {
     let reach = Reach::of(g, k, pen);
     if reach.rows == 0 {
@@ -736,8 +737,8 @@ fn settle_narrow(font: &[u16], r: Reach, mode: u32, keep: &mut [u16], flip: &mut
     requires within { Within r (length keep.old) }
     requires within_2 { Within r (length flip.old) }
     requires font_value { spans_in r 0 (length font.now) ≡ true }
-    ensures keep { after keep ≡ rows_drawn (given font) r (mode_of 1) r.rows (given keep) }
-    ensures flip { after flip ≡ rows_drawn (given font) r (mode_of mode) r.rows (given flip) }
+    ensures keep { keep.new ≡ rows_drawn font.now r (mode_of 1) r.rows keep.old }
+    ensures flip { flip.new ≡ rows_drawn font.now r (mode_of mode) r.rows flip.old }
 {
     let columns = r.head & r.tail;
     let mut from = r.source;
@@ -758,8 +759,8 @@ fn join_narrow(font: &[u16], r: Reach, mode: u32, keep: &mut [u16], flip: &mut [
     requires within { Within r (length keep.old) }
     requires within_2 { Within r (length flip.old) }
     requires font_value { spans_in r 0 (length font.now) ≡ true }
-    ensures keep { after keep ≡ rows_kept (given font) r (mode_of mode) (given keep) }
-    ensures flip { after flip ≡ rows_drawn (given font) r (mode_of mode) r.rows (given flip) }
+    ensures keep { keep.new ≡ rows_kept font.now r (mode_of mode) keep.old }
+    ensures flip { flip.new ≡ rows_drawn font.now r (mode_of mode) r.rows flip.old }
 {
     if mode < 2 {
         settle_narrow(font, r, mode, keep, flip);
@@ -780,8 +781,8 @@ fn settle_two(
 )
     requires last_in_bounds { (at + r.last < length keep.old) × (at + r.last < length flip.old) × (at ≤ 98303) × (r.last ≡ 1) }
     requires from_bound { (from ≤ 17196646400) × (r.shift < 16) × (from + r.last + 1 < length font.now) }
-    ensures keep { after keep ≡ row_drawn (given font) r (mode_of 1) from at (r.last + 1) (given keep) }
-    ensures flip { after flip ≡ row_drawn (given font) r (mode_of mode) from at (r.last + 1) (given flip) }
+    ensures keep { keep.new ≡ row_drawn font.now r (mode_of 1) from at (r.last + 1) keep.old }
+    ensures flip { flip.new ≡ row_drawn font.now r (mode_of mode) from at (r.last + 1) flip.old }
 {
     let first = dots_from(font, from, r.shift) & r.head;
     mark(mode, first, at, flip);
@@ -796,8 +797,8 @@ fn settle_pair(font: &[u16], r: Reach, mode: u32, keep: &mut [u16], flip: &mut [
     requires within { Within r (length keep.old) }
     requires within_2 { Within r (length flip.old) }
     requires font_value { spans_in r 1 (length font.now) ≡ true }
-    ensures keep { after keep ≡ rows_drawn (given font) r (mode_of 1) r.rows (given keep) }
-    ensures flip { after flip ≡ rows_drawn (given font) r (mode_of mode) r.rows (given flip) }
+    ensures keep { keep.new ≡ rows_drawn font.now r (mode_of 1) r.rows keep.old }
+    ensures flip { flip.new ≡ rows_drawn font.now r (mode_of mode) r.rows flip.old }
 {
     let mut from = r.source;
     let mut at = r.at;
@@ -815,8 +816,8 @@ fn join_pair(font: &[u16], r: Reach, mode: u32, keep: &mut [u16], flip: &mut [u1
     requires within { Within r (length keep.old) }
     requires within_2 { Within r (length flip.old) }
     requires font_value { spans_in r 1 (length font.now) ≡ true }
-    ensures keep { after keep ≡ rows_kept (given font) r (mode_of mode) (given keep) }
-    ensures flip { after flip ≡ rows_drawn (given font) r (mode_of mode) r.rows (given flip) }
+    ensures keep { keep.new ≡ rows_kept font.now r (mode_of mode) keep.old }
+    ensures flip { flip.new ≡ rows_drawn font.now r (mode_of mode) r.rows flip.old }
 {
     if mode < 2 {
         settle_pair(font, r, mode, keep, flip);
@@ -838,8 +839,8 @@ fn settle_line(
     requires last_in_bounds { (at + r.last < length keep.old) × (at + r.last < length flip.old) × (at ≤ 98303) }
     requires last_bound { (r.last ≤ 255) × (1 ≤ r.last) }
     requires from_bound { (from ≤ 17196646400) × (r.shift < 16) × (from + r.last + 1 < length font.now) }
-    ensures keep { after keep ≡ row_drawn (given font) r (mode_of 1) from at (r.last + 1) (given keep) }
-    ensures flip { after flip ≡ row_drawn (given font) r (mode_of mode) from at (r.last + 1) (given flip) }
+    ensures keep { keep.new ≡ row_drawn font.now r (mode_of 1) from at (r.last + 1) keep.old }
+    ensures flip { flip.new ≡ row_drawn font.now r (mode_of mode) from at (r.last + 1) flip.old }
 {
     let mut mask = r.head;
     let mut w = 0;
@@ -860,8 +861,8 @@ fn settle_wide(font: &[u16], r: Reach, mode: u32, keep: &mut [u16], flip: &mut [
     requires within { Within r (length keep.old) × (1 ≤ r.last) }
     requires within_2 { Within r (length flip.old) }
     requires font_value { in_file r (length font.now) ≡ true }
-    ensures keep { after keep ≡ rows_drawn (given font) r (mode_of 1) r.rows (given keep) }
-    ensures flip { after flip ≡ rows_drawn (given font) r (mode_of mode) r.rows (given flip) }
+    ensures keep { keep.new ≡ rows_drawn font.now r (mode_of 1) r.rows keep.old }
+    ensures flip { flip.new ≡ rows_drawn font.now r (mode_of mode) r.rows flip.old }
 {
     let mut from = r.source;
     let mut at = r.at;
@@ -879,8 +880,8 @@ fn join_wide(font: &[u16], r: Reach, mode: u32, keep: &mut [u16], flip: &mut [u1
     requires within { Within r (length keep.old) × (1 ≤ r.last) }
     requires within_2 { Within r (length flip.old) }
     requires font_value { in_file r (length font.now) ≡ true }
-    ensures keep { after keep ≡ rows_kept (given font) r (mode_of mode) (given keep) }
-    ensures flip { after flip ≡ rows_drawn (given font) r (mode_of mode) r.rows (given flip) }
+    ensures keep { keep.new ≡ rows_kept font.now r (mode_of mode) keep.old }
+    ensures flip { flip.new ≡ rows_drawn font.now r (mode_of mode) r.rows flip.old }
 {
     if mode < 2 {
         settle_wide(font, r, mode, keep, flip);
@@ -893,8 +894,8 @@ fn join_wide(font: &[u16], r: Reach, mode: u32, keep: &mut [u16], flip: &mut [u1
 fn join_rows(font: &[u16], r: Reach, mode: u32, keep: &mut [u16], flip: &mut [u16])
     requires within { Within r (length keep.old) }
     requires within_2 { Within r (length flip.old) }
-    ensures keep { after keep ≡ rows_kept (given font) r (mode_of mode) (given keep) }
-    ensures flip { after flip ≡ rows_drawn (given font) r (mode_of mode) r.rows (given flip) }
+    ensures keep { keep.new ≡ rows_kept font.now r (mode_of mode) keep.old }
+    ensures flip { flip.new ≡ rows_drawn font.now r (mode_of mode) r.rows flip.old }
 {
     draw_rows(font, r, mode, flip);
     if mode < 2 {
@@ -907,8 +908,8 @@ fn join_other(font: &[u16], r: Reach, mode: u32, keep: &mut [u16], flip: &mut [u
     requires within { Within r (length keep.old) }
     requires within_2 { Within r (length flip.old) }
     requires font_value { spans_in r 0 (length font.now) ≡ false }
-    ensures keep { after keep ≡ rows_kept (given font) r (mode_of mode) (given keep) }
-    ensures flip { after flip ≡ rows_drawn (given font) r (mode_of mode) r.rows (given flip) }
+    ensures keep { keep.new ≡ rows_kept font.now r (mode_of mode) keep.old }
+    ensures flip { flip.new ≡ rows_drawn font.now r (mode_of mode) r.rows flip.old }
 {
     if r.spans(1, font.len()) {
         join_pair(font, r, mode, keep, flip);
@@ -926,8 +927,8 @@ fn join_picture(font: &[u16], g: Glyph, k: Stroke, pen: Pen, keep: &mut [u16], f
     requires drawable { Drawable k (length keep.old) }
     requires k_in_bounds { stroke_words k ≤ length flip.old }
     requires place_le_farthest { (pen.place ≤ farthest) × (1 ≤ g.bitmap) }
-    ensures keep { after keep ≡ on_panel (cleared (picture_effect (dot_of (given font)) k pen g)) k (given keep) }
-    ensures flip { after flip ≡ on_panel (picture_effect (dot_of (given font)) k pen g) k (given flip) }
+    ensures keep { keep.new ≡ on_panel (cleared (picture_effect (dot_of font.now) k pen g)) k keep.old }
+    ensures flip { flip.new ≡ on_panel (picture_effect (dot_of font.now) k pen g) k flip.old }
 {
     let reach = Reach::of(g, k, pen);
     if reach.rows == 0 {
@@ -950,7 +951,7 @@ fn join_picture(font: &[u16], g: Glyph, k: Stroke, pen: Pen, keep: &mut [u16], f
 fn draw_far(font: &[u16], r: Reach, mode: u32, lent: &mut [u16])
     requires within { Within r (length lent.old) }
     requires font_value { spans_in r 0 (length font.now) ≡ false }
-    ensures { after lent ≡ rows_drawn (given font) r (mode_of mode) r.rows (given lent) }
+    ensures { lent.new ≡ rows_drawn font.now r (mode_of mode) r.rows lent.old }
 {
     if r.in_file(font.len()) {
         draw_wide(font, r, mode, lent);
@@ -964,8 +965,8 @@ fn settle_far(font: &[u16], r: Reach, mode: u32, keep: &mut [u16], flip: &mut [u
     requires within { Within r (length keep.old) }
     requires within_2 { Within r (length flip.old) }
     requires font_value { spans_in r 0 (length font.now) ≡ false }
-    ensures keep { after keep ≡ rows_drawn (given font) r (mode_of 1) r.rows (given keep) }
-    ensures flip { after flip ≡ rows_drawn (given font) r (mode_of mode) r.rows (given flip) }
+    ensures keep { keep.new ≡ rows_drawn font.now r (mode_of 1) r.rows keep.old }
+    ensures flip { flip.new ≡ rows_drawn font.now r (mode_of mode) r.rows flip.old }
 {
     if r.in_file(font.len()) {
         settle_wide(font, r, mode, keep, flip);
@@ -981,8 +982,8 @@ fn mark_far(font: &[u16], r: Reach, mode: u32, settles: bool, keep: &mut [u16], 
     requires within { settles ≡ true → Within r (length keep.old) }
     requires within_2 { Within r (length flip.old) }
     requires font_value { spans_in r 0 (length font.now) ≡ false }
-    ensures keep { after keep ≡ cond settles (rows_drawn (given font) r (mode_of 1) r.rows (given keep)) (given keep) }
-    ensures flip { after flip ≡ rows_drawn (given font) r (mode_of mode) r.rows (given flip) }
+    ensures keep { keep.new ≡ cond settles (rows_drawn font.now r (mode_of 1) r.rows keep.old) keep.old }
+    ensures flip { flip.new ≡ rows_drawn font.now r (mode_of mode) r.rows flip.old }
 {
     if settles {
         settle_far(font, r, mode, keep, flip);
@@ -1004,8 +1005,8 @@ fn mark_named(
     requires drawable { Drawable k (length flip.old) }
     requires k_in_bounds { settles ≡ true → stroke_words k ≤ length keep.old }
     requires place_le_farthest { (pen.place ≤ farthest) × (1 ≤ g.bitmap) }
-    ensures keep { after keep ≡ kept_if settles (picture_effect (dot_of (given font)) (erasing k) pen g) k (given keep) }
-    ensures flip { after flip ≡ on_panel (picture_effect (dot_of (given font)) k pen g) k (given flip) }
+    ensures keep { keep.new ≡ kept_if settles (picture_effect (dot_of font.now) (erasing k) pen g) k keep.old }
+    ensures flip { flip.new ≡ on_panel (picture_effect (dot_of font.now) k pen g) k flip.old }
 {
     if misses(g, k, pen) {
         return;
@@ -1042,10 +1043,10 @@ fn mark_mapped(
     requires k_in_bounds { settles ≡ true → stroke_words k ≤ length keep.old }
     requires starting { Starting start × (index v.header ≡ true) }
     requires text_len_bound { length text.now ≤ 64 }
-    ensures value { result ≡ pen_along (steps_of (face_from v (given font))) start (given text) }
+    ensures value { result ≡ pen_along (steps_of (face_from v font.now)) start text.now }
     ensures near { Near result }
-    ensures keep { after keep ≡ kept_if settles (erased_by (face_from v (given font)) k start (given text)) k (given keep) }
-    ensures flip { after flip ≡ on_panel (label_effect (face_from v (given font)) k start (given text)) k (given flip) }
+    ensures keep { keep.new ≡ kept_if settles (erased_by (face_from v font.now) k start text.now) k keep.old }
+    ensures flip { flip.new ≡ on_panel (label_effect (face_from v font.now) k start text.now) k flip.old }
 {
     let h = v.header;
     let mut bitmaps = [5u32; 128];
@@ -1069,9 +1070,9 @@ fn paint_text(font: &[u16], v: View, k: Stroke, start: Pen, text: &[u8], panel: 
     requires drawable { Drawable k (length panel.old) }
     requires starting { Starting start }
     requires text_len_bound { length text.now ≤ 64 }
-    ensures value { result ≡ pen_along (steps_of (face_from v (given font))) start (given text) }
+    ensures value { result ≡ pen_along (steps_of (face_from v font.now)) start text.now }
     ensures near { Near result }
-    ensures panel { after panel ≡ on_panel (label_effect (face_from v (given font)) k start (given text)) k (given panel) }
+    ensures panel { panel.new ≡ on_panel (label_effect (face_from v font.now) k start text.now) k panel.old }
 {
     if v.header.index() {
         let mut none = [0u16; 1];
@@ -1104,10 +1105,10 @@ fn join_text(
     requires k_in_bounds { stroke_words k ≤ length flip.old }
     requires starting { Starting start }
     requires text_len_bound { length text.now ≤ 64 }
-    ensures value { result ≡ pen_along (steps_of (face_from v (given font))) start (given text) }
+    ensures value { result ≡ pen_along (steps_of (face_from v font.now)) start text.now }
     ensures near { Near result }
-    ensures keep { after keep ≡ on_panel (cleared (label_effect (face_from v (given font)) k start (given text))) k (given keep) }
-    ensures flip { after flip ≡ on_panel (label_effect (face_from v (given font)) k start (given text)) k (given flip) }
+    ensures keep { keep.new ≡ on_panel (cleared (label_effect (face_from v font.now) k start text.now)) k keep.old }
+    ensures flip { flip.new ≡ on_panel (label_effect (face_from v font.now) k start text.now) k flip.old }
 {
     if v.header.index() {
         let own = k.mode;
@@ -1168,9 +1169,9 @@ pub fn paint_label(
     text: &[u8],
     panel: &mut [u16],
 ) -> Reply
-    ensures value { result ≡ reply_with (face_from v (given font)) s (length (given panel) ∷ []) l (given text) }
-    ensures panel { after panel ≡ paint_with (face_from v (given font)) s l (given text) (given panel) }
-    ensures numbers { TellsWith result (face_from v (given font)) s (length (given panel) ∷ []) l (given text) }
+    ensures value { result ≡ reply_with (face_from v font.now) s (length panel.old ∷ []) l text.now }
+    ensures panel { panel.new ≡ paint_with (face_from v font.now) s l text.now panel.old }
+    ensures numbers { TellsWith result (face_from v font.now) s (length panel.old ∷ []) l text.now }
 {
     let refusal = number_with(s, panel.len(), l, text.len());
     if refusal != 0 {
@@ -1190,7 +1191,7 @@ pub fn paint_row(
     row: usize,
     words: &mut [u16],
 )
-    ensures { after words ≡ row_with (face_from v (given font)) s l (given text) row (given words) }
+    ensures { words.new ≡ row_with (face_from v font.now) s l text.now row words.old }
 {
     let one = Shape {
         rowwords: s.rowwords,
@@ -1223,10 +1224,10 @@ pub fn join_label(
     keep: &mut [u16],
     flip: &mut [u16],
 ) -> Reply
-    ensures value { result ≡ reply_with (face_from v (given font)) s (lengths_of (given keep) (given flip)) l (given text) }
-    ensures keep { after keep ≡ (join_with (face_from v (given font)) s l (given text) (sheet_of (given keep) (given flip))).keep }
-    ensures flip { after flip ≡ (join_with (face_from v (given font)) s l (given text) (sheet_of (given keep) (given flip))).flip }
-    ensures numbers { TellsWith result (face_from v (given font)) s (lengths_of (given keep) (given flip)) l (given text) }
+    ensures value { result ≡ reply_with (face_from v font.now) s (lengths_of keep.old flip.old) l text.now }
+    ensures keep { keep.new ≡ (join_with (face_from v font.now) s l text.now (sheet_of keep.old flip.old)).keep }
+    ensures flip { flip.new ≡ (join_with (face_from v font.now) s l text.now (sheet_of keep.old flip.old)).flip }
+    ensures numbers { TellsWith result (face_from v font.now) s (lengths_of keep.old flip.old) l text.now }
 {
     let shorter = words::least(keep.len(), flip.len());
     let refusal = number_with(s, shorter, l, text.len());
@@ -1238,9 +1239,9 @@ pub fn join_label(
 
 // Paints a label into one of the thirty-two strips of a panel.
 pub fn paint(font: &[u16], s: Shape, l: Label, text: &[u8], panel: &mut [u16]) -> Reply
-    ensures value { result ≡ reply_of s (length (given panel) ∷ []) (call_of (given font) l (given text)) }
-    ensures panel { after panel ≡ paint_after s (call_of (given font) l (given text)) (given panel) }
-    ensures numbers { TellsCall result s (length (given panel) ∷ []) (call_of (given font) l (given text)) }
+    ensures value { result ≡ reply_of s (length panel.old ∷ []) (call_of font.now l text.now) }
+    ensures panel { panel.new ≡ paint_after s (call_of font.now l text.now) panel.old }
+    ensures numbers { TellsCall result s (length panel.old ∷ []) (call_of font.now l text.now) }
 {
     match fonts::read(font) {
         Reading::Refused(number) => Reply::Refused(number),

@@ -1,6 +1,5 @@
 // The help text, and the argument that asks for it.
 ghost use Rattle.std.specs.Prelude.{◌≡◌, true};
-ghost use Rattle.words.specs.Lent.{given};
 ghost use Rattle.preview.specs.Help.{HelpAsked};
 
 use crate::message::say_written;
@@ -24,7 +23,7 @@ pub fn same(a: &[u8], b: &[u8]) -> bool
 
 // Whether `--help` is the only argument. The name of the program is counted too.
 pub fn is_asked(count: usize, first: &[u8]) -> bool
-    ensures { (result ≡ true → HelpAsked count (given first)) × (HelpAsked count (given first) → result ≡ true) }
+    ensures { (result ≡ true → HelpAsked count first.now) × (HelpAsked count first.now → result ≡ true) }
 {
     if count != 2 {
         return false;

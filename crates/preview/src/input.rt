@@ -1,7 +1,6 @@
 // Reading: from standard input, and a file.
 ghost use Rattle.std.specs.Prelude.{◌≡◌, true, take};
 ghost use Rattle.io.specs.Counts.{IsPrefixLen};
-ghost use Rattle.words.specs.Lent.{given, after};
 
 use crate::number::part;
 use libc::STDIN_FILENO;
@@ -9,14 +8,14 @@ use reading::{BYTES, Input};
 
 // The first bytes of a buffer. A callee that takes the array needs no proof of its length.
 pub fn first_of(bytes: &[u8; BYTES], count: usize) -> &[u8]
-    ensures { result.now ≡ take count (given bytes) }
+    ensures { result.now ≡ take count bytes.now }
 {
     part(bytes, 0, count)
 }
 
 // Reads once from standard input; no bytes where it has ended.
 pub fn read_some(bytes: &mut [u8; BYTES]) -> Input
-    ensures prefix_len { IsPrefixLen result.bytes (after bytes) }
+    ensures prefix_len { IsPrefixLen result.bytes bytes.new }
     ensures failed { result.failed ≡ true → result.bytes ≡ 0 }
 {
     let got = libc::read(STDIN_FILENO, bytes);
@@ -27,7 +26,7 @@ pub fn read_some(bytes: &mut [u8; BYTES]) -> Input
 }
 
 pub fn read_file(path: &[u8], space: &mut [u8; BYTES]) -> Input
-    ensures { IsPrefixLen result.bytes (after space) }
+    ensures { IsPrefixLen result.bytes space.new }
 {
     let fd = os::open_read(path);
     if fd < 0 {

@@ -1,6 +1,5 @@
 // Painting the lines on standard input.
 ghost use Rattle.std.specs.Prelude.{◌≡◌, [], ◌∷◌, length};
-ghost use Rattle.words.specs.Lent.{given, after};
 ghost use Rattle.preview.specs.Line.{counted, after_line};
 ghost use Rattle.preview.specs.Lines.{Bytes, Painted, most, first_line, next_line, longer_line, first_progress, kept, put_byte, Taken};
 
@@ -89,7 +88,7 @@ pub struct Answer {
 
 // Puts a byte into the line, if it has room.
 fn put(line: &mut [u8; LINE], at: usize, b: u8)
-    ensures { after line ≡ put_byte at b (given line) }
+    ensures { line.new ≡ put_byte at b line.old }
 {
     if at < LINE {
         line[at] = b;
@@ -98,7 +97,7 @@ fn put(line: &mut [u8; LINE], at: usize, b: u8)
 
 // The bytes of the line that are there.
 fn line_so_far(line: &[u8; LINE], lines: Lines) -> &[u8]
-    ensures { result.now ≡ kept lines (given line) }
+    ensures { result.now ≡ kept lines line.now }
 {
     part(line, 0, lines.length)
 }
@@ -112,7 +111,7 @@ fn paint_line(
     panel: &mut [u16],
     counts: [u32; 32],
 ) -> [u32; 32]
-    ensures { counted (after panel) result ≡ after_line (given font) s (given line) (counted (given panel) counts) }
+    ensures { counted panel.new result ≡ after_line font.now s line.now (counted panel.old counts) }
 {
     let read = line_of(line);
     match read {
@@ -142,7 +141,7 @@ fn take_byte(
     s: Shape,
     panel: &mut [u16],
 ) -> Progress
-    ensures { Taken (given font) s (b ∷ []) before (given line) (given panel) result (after line) (after panel) }
+    ensures { Taken font.now s (b ∷ []) before line.old panel.old result line.new panel.new }
 {
     let lines = before.lines;
     let counts = before.counts;
@@ -179,8 +178,8 @@ fn take_bytes(
     panel: &mut [u16],
 ) -> Progress
     requires { length line.old ≡ most }
-    ensures taken { Taken (given font) s (given bytes) before (given line) (given panel) result (after line) (after panel) }
-    ensures bytes { Bytes (given bytes) }
+    ensures taken { Taken font.now s bytes.now before line.old panel.old result line.new panel.new }
+    ensures bytes { Bytes bytes.now }
 {
     let mut so_far = before;
     let mut i = 0;
@@ -194,7 +193,7 @@ fn take_bytes(
 // Paints all lines, with counts that are zeros at first. A proved loop has to end, and nothing says that the lines do: the turns are
 // counted down from a number that no run uses up.
 pub fn paint_lines(font: &[u16], s: Shape, panel: &mut [u16]) -> Answer
-    ensures { Painted (given font) s (given panel) result (after panel) }
+    ensures { Painted font.now s panel.old result panel.new }
 {
     let mut bytes = [0u8; BYTES];
     let mut line = [0u8; LINE];

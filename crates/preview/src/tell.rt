@@ -1,6 +1,5 @@
 // The lit dots of the strips, and the argument that asks for them.
 ghost use Rattle.std.specs.Prelude.{◌≡◌, true};
-ghost use Rattle.words.specs.Lent.{given};
 ghost use Rattle.preview.specs.Tell.{CountsAsked};
 
 use crate::help::same;
@@ -8,7 +7,7 @@ use crate::message::{say, say_number};
 
 // Whether `--counts` is the first of five arguments. The name of the program is counted too.
 pub fn is_asked(count: usize, first: &[u8]) -> bool
-    ensures { (result ≡ true → CountsAsked count (given first)) × (CountsAsked count (given first) → result ≡ true) }
+    ensures { (result ≡ true → CountsAsked count first.now) × (CountsAsked count first.now → result ≡ true) }
 {
     if count != 6 {
         return false;

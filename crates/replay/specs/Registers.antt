@@ -1,7 +1,7 @@
 -- The registers of docs/REPLAY.md, and the arrays that they share.
 use Rattle.std.specs.Prelude.{ℕ, ◌-◌, ◌%◌, min, cond, List, [], ◌∷◌, ◌++◌, ltb, eqb, length, get_or, set, take, drop}
 use Rattle.std.proofs.Math.Seq.{paste}
-use Rattle.std.specs.Borrow.{Bor}
+use Rattle.std.specs.Borrow.{MutBor}
 use denote.Triple.Both.{Both}
 use Rattle.words.specs.Lent.{given, after}
 use Rattle.words.specs.Word.{word, over}
@@ -80,12 +80,12 @@ arrays files lent keeps flips bytes = record { files = files; lent = lent; keeps
 
 -- what the five hold as a call that is lent them begins, and as it ends
 module _ {F L K G B : Type 0} where
-  abbrev pub at_entry : Both (Bor (List ℕ)) F → Both (Bor (List ℕ)) L → Both (Bor (List ℕ)) K → Both (Bor (List ℕ)) G
-      → Both (Bor (List ℕ)) B → Arrays
+  abbrev pub at_entry : Both (MutBor (List ℕ)) F → Both (MutBor (List ℕ)) L → Both (MutBor (List ℕ)) K → Both (MutBor (List ℕ)) G
+      → Both (MutBor (List ℕ)) B → Arrays
   at_entry files lent keeps flips bytes = arrays (given files) (given lent) (given keeps) (given flips) (given bytes)
 
-  abbrev pub at_exit : Both F (Bor (List ℕ)) → Both L (Bor (List ℕ)) → Both K (Bor (List ℕ)) → Both G (Bor (List ℕ))
-      → Both B (Bor (List ℕ)) → Arrays
+  abbrev pub at_exit : Both F (MutBor (List ℕ)) → Both L (MutBor (List ℕ)) → Both K (MutBor (List ℕ)) → Both G (MutBor (List ℕ))
+      → Both B (MutBor (List ℕ)) → Arrays
   at_exit files lent keeps flips bytes = arrays (after files) (after lent) (after keeps) (after flips) (after bytes)
 
 -- how many of the values come to stand in an array

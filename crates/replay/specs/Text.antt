@@ -1,6 +1,6 @@
 -- The answers' text: bytes gathered in an array, of which the first wait to be written out.
 use Rattle.std.specs.Prelude.{ℕ, zero, suc, ◌+◌, ◌-◌, ◌/◌, ◌%◌, ◌^◌, ◌≡◌, cond, List, [], ◌∷◌, ◌++◌, ltb, eqb, ℤ, pos, negsuc, get_or, set, drop}
-use Rattle.std.specs.Borrow.{Bor}
+use Rattle.std.specs.Borrow.{MutBor}
 use denote.Triple.Both.{Both}
 use Rattle.words.specs.Lent.{given, after}
 
@@ -24,7 +24,7 @@ with_bytes before [] = before
 with_bytes before (b ∷ bytes) = with_bytes (with_byte before b) bytes
 
 -- how the contracts say it: of a text `at` bytes waited as the call began, these have been put behind them, and now `end` bytes wait
-abbrev pub Puts : Both (Bor (List ℕ)) (Bor (List ℕ)) → ℕ → List ℕ → ℕ → Type 0
+abbrev pub Puts : Both (MutBor (List ℕ)) (MutBor (List ℕ)) → ℕ → List ℕ → ℕ → Type 0
 Puts text at bytes end = waiting (after text) end ≡ with_bytes (waiting (given text) at) bytes
 
 -- ---- the bytes of a name

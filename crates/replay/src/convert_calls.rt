@@ -1,6 +1,5 @@
 // The call that converts a CU file, and the command that makes what it wrote the font: convert, written.
 ghost use Rattle.std.specs.Prelude.{◌≡◌, length};
-ghost use Rattle.words.specs.Lent.{given};
 ghost use Rattle.convert.specs.Conversion.{conversion_of, conversion_number, words_written};
 ghost use Rattle.replay.specs.Names.{cu, out};
 ghost use Rattle.replay.specs.Registers.{words_of};
@@ -32,7 +31,7 @@ fn words_written(conversion: Conversion) -> usize
 }
 
 fn convert(held: Held, files: &[u16], lent: &mut [u16]) -> Conversion
-    ensures { result ≡ conversion_of (words_of (given files) held cu) (length (words_of (given lent) held out)) }
+    ensures { result ≡ conversion_of (words_of files.now held cu) (length (words_of lent.old held out)) }
 {
     let cu = registers::held_words(files, held, names::CU);
     convert::convert(cu, registers::lent_words(lent, held, names::OUT))
@@ -56,7 +55,7 @@ pub fn answer(
     lent: &mut [u16],
     text: &mut [u8; TEXT],
 ) -> State
-    ensures { Puts text state.at (convert_answer line state.held (given files) (given lent)) result.at }
+    ensures { Puts text state.at (convert_answer line state.held files.old lent.old) result.at }
 {
     let held = state.held;
     if line.command == names::CONVERT {

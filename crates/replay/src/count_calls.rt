@@ -1,7 +1,6 @@
 // The calls with counts: paintlit, applylit, clear. The panel and the counts stand in one array, so the counts are read by value before
 // the panel is lent, and put back behind the call, a refused one too.
 ghost use Rattle.std.specs.Prelude.{◌≡◌, ◌+◌, ◌*◌, ◌/◌, ◌%◌, ◌<◌, length};
-ghost use Rattle.words.specs.Lent.{given, after};
 ghost use Rattle.paint.specs.Sheet.{sheet_of};
 ghost use Rattle.counts.specs.Calls.{settled_of};
 ghost use Rattle.replay.specs.Text.{Puts};
@@ -28,7 +27,7 @@ fn joined(high: u16, low: u16) -> u32
 // Count k of a register's words.
 fn count_at(words: &[u16], k: usize) -> u32
     requires { k < 32 }
-    ensures { result ≡ count_at (given words) k }
+    ensures { result ≡ count_at words.now k }
 {
     joined(
         words::word_at(words, 2 * k),
@@ -38,7 +37,7 @@ fn count_at(words: &[u16], k: usize) -> u32
 
 // The counts that a register's words are.
 fn counts_of(words: &[u16]) -> [u32; 32]
-    ensures { result ≡ counts_in (given words) }
+    ensures { result ≡ counts_in words.now }
 {
     let mut counts = [0u32; 32];
     let mut k = 0;
@@ -88,23 +87,23 @@ fn words_of(counts: [u32; 32]) -> [u16; 64]
 
 // The counts that are held.
 fn counts_held(held: Held, lent: &[u16]) -> [u32; 32]
-    ensures { result ≡ counts_held held (given lent) }
+    ensures { result ≡ counts_held held lent.now }
 {
     counts_of(registers::held_words(lent, held, names::COUNTS))
 }
 
 // Makes these counts the register's.
 fn keep(held: Held, counts: [u32; 32], lent: &mut [u16]) -> Held
-    ensures value { result ≡ held_of_counts held (length (given lent)) }
-    ensures lent { after lent ≡ lent_with_counts (count_words counts) (given lent) }
+    ensures value { result ≡ held_of_counts held (length lent.old) }
+    ensures lent { lent.new ≡ lent_with_counts (count_words counts) lent.old }
 {
     let words = words_of(counts);
     registers::keep_counts(held, &words, lent)
 }
 
 fn paint(line: Line, font: &[u16], text: &[u8], held: Held, lent: &mut [u16]) -> Painted
-    ensures value { result ≡ paint_lit_reply line (given font) (given text) held (given lent) }
-    ensures lent { after lent ≡ panel_lit held (paint_lit line (given font) (given text) held (given lent)) (given lent) }
+    ensures value { result ≡ paint_lit_reply line font.now text.now held lent.old }
+    ensures lent { lent.new ≡ panel_lit held (paint_lit line font.now text.now held lent.old) lent.old }
 {
     let counts = counts_held(held, lent);
     let end = registers::panel_end(held, lent);
@@ -119,8 +118,8 @@ fn paint(line: Line, font: &[u16], text: &[u8], held: Held, lent: &mut [u16]) ->
 }
 
 fn apply(line: Line, keep: &[u16], flip: &[u16], held: Held, lent: &mut [u16]) -> Settled
-    ensures value { result ≡ settled_of (apply_lit line (sheet_of (given keep) (given flip)) held (given lent)) }
-    ensures lent { after lent ≡ panel_lit held (apply_lit line (sheet_of (given keep) (given flip)) held (given lent)) (given lent) }
+    ensures value { result ≡ settled_of (apply_lit line (sheet_of keep.now flip.now) held lent.old) }
+    ensures lent { lent.new ≡ panel_lit held (apply_lit line (sheet_of keep.now flip.now) held lent.old) lent.old }
 {
     let counts = counts_held(held, lent);
     let end = registers::panel_end(held, lent);
@@ -128,8 +127,8 @@ fn apply(line: Line, keep: &[u16], flip: &[u16], held: Held, lent: &mut [u16]) -
 }
 
 fn clear(line: Line, held: Held, lent: &mut [u16]) -> Settled
-    ensures value { result ≡ settled_of (clear_lit line held (given lent)) }
-    ensures lent { after lent ≡ panel_lit held (clear_lit line held (given lent)) (given lent) }
+    ensures value { result ≡ settled_of (clear_lit line held lent.old) }
+    ensures lent { lent.new ≡ panel_lit held (clear_lit line held lent.old) lent.old }
 {
     let counts = counts_held(held, lent);
     let end = registers::panel_end(held, lent);
@@ -145,8 +144,8 @@ fn answer_painted(
     text: &mut [u8; TEXT],
 ) -> State
     ensures puts { Puts text state.at (reply_bytes line.command painted.reply) result.at }
-    ensures held { result.held ≡ held_of_counts state.held (length (given lent)) }
-    ensures lent { after lent ≡ lent_with_counts (count_words painted.counts) (given lent) }
+    ensures held { result.held ≡ held_of_counts state.held (length lent.old) }
+    ensures lent { lent.new ≡ lent_with_counts (count_words painted.counts) lent.old }
 {
     let held = state.held;
     let reply = painted.reply;
@@ -165,8 +164,8 @@ fn answer_settled(
     text: &mut [u8; TEXT],
 ) -> State
     ensures puts { Puts text state.at (refusal_bytes line.command settled.number) result.at }
-    ensures held { result.held ≡ held_of_counts state.held (length (given lent)) }
-    ensures lent { after lent ≡ lent_with_counts (count_words settled.counts) (given lent) }
+    ensures held { result.held ≡ held_of_counts state.held (length lent.old) }
+    ensures lent { lent.new ≡ lent_with_counts (count_words settled.counts) lent.old }
 {
     let held = state.held;
     let counts = settled.counts;
@@ -187,9 +186,9 @@ pub fn answer(
     text: &mut [u8; TEXT],
     at: usize,
 ) -> State
-    ensures puts { Puts text at (count_answer line (given font) (given label) held (given lent) (given keeps) (given flips)) result.at }
-    ensures held { result.held ≡ count_held line held (length (given lent)) }
-    ensures lent { after lent ≡ count_lent line (given font) (given label) held (given lent) (given keeps) (given flips) }
+    ensures puts { Puts text at (count_answer line font.now label.now held lent.old keeps.now flips.now) result.at }
+    ensures held { result.held ≡ count_held line held (length lent.old) }
+    ensures lent { lent.new ≡ count_lent line font.now label.now held lent.old keeps.now flips.now }
 {
     let state = State { held, at };
     if line.command == names::PAINTLIT {

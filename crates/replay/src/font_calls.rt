@@ -1,6 +1,5 @@
 // The calls that read the font: check, glyph, dots, row.
 ghost use Rattle.std.specs.Prelude.{◌≡◌};
-ghost use Rattle.words.specs.Lent.{given};
 ghost use Rattle.replay.specs.Text.{Puts};
 ghost use Rattle.replay.specs.Answers.{no_glyph, glyph_of, place_bytes, glyph_bytes, head_bytes};
 ghost use Rattle.replay.specs.Answers.{check_answer, glyph_answer, dots_answer, row_answer, font_answer};
@@ -28,7 +27,7 @@ fn no_glyph() -> Glyph
 }
 
 fn glyph_of(font: &[u16], code: u32) -> Glyph
-    ensures { result ≡ glyph_of (given font) code }
+    ensures { result ≡ glyph_of font.now code }
 {
     match fonts::read(font) {
         Reading::Refused(_) => no_glyph(),
@@ -59,21 +58,21 @@ fn put_glyph(text: &mut [u8; TEXT], at: usize, glyph: Glyph) -> usize
 
 // How each of these answers but row begins: the call, and the number of the font's refusal.
 fn put_head(text: &mut [u8; TEXT], at: usize, line: Line, font: &[u16]) -> usize
-    ensures { Puts text at (head_bytes line.command (given font)) result }
+    ensures { Puts text at (head_bytes line.command font.now) result }
 {
     let at = put_name(text, at, line.command);
     put_number(text, at, fonts::number(font) as u64)
 }
 
 fn check(line: Line, font: &[u16], text: &mut [u8; TEXT], at: usize) -> usize
-    ensures { Puts text at (check_answer line (given font)) result }
+    ensures { Puts text at (check_answer line font.now) result }
 {
     let at = put_head(text, at, line, font);
     put(text, at, b'\n')
 }
 
 fn glyph(line: Line, font: &[u16], text: &mut [u8; TEXT], at: usize) -> usize
-    ensures { Puts text at (glyph_answer line (given font)) result }
+    ensures { Puts text at (glyph_answer line font.now) result }
 {
     let at = put_head(text, at, line, font);
     let at = put_glyph(text, at, glyph_of(font, line.number(0)));
@@ -81,7 +80,7 @@ fn glyph(line: Line, font: &[u16], text: &mut [u8; TEXT], at: usize) -> usize
 }
 
 fn dots(line: Line, font: &[u16], text: &mut [u8; TEXT], at: usize) -> usize
-    ensures { Puts text at (dots_answer line (given font)) result }
+    ensures { Puts text at (dots_answer line font.now) result }
 {
     let glyph = glyph_of(font, line.number(0));
     let word = glyph.dots(font, line.number(1) as usize, line.number(2));
@@ -91,7 +90,7 @@ fn dots(line: Line, font: &[u16], text: &mut [u8; TEXT], at: usize) -> usize
 }
 
 fn row(line: Line, font: &[u16], text: &mut [u8; TEXT], at: usize) -> usize
-    ensures { Puts text at (row_answer line (given font)) result }
+    ensures { Puts text at (row_answer line font.now) result }
 {
     let at = put_name(text, at, line.command);
     let at = put_list(
@@ -105,7 +104,7 @@ fn row(line: Line, font: &[u16], text: &mut [u8; TEXT], at: usize) -> usize
 
 // Answers a call of this file.
 pub fn answer(line: Line, font: &[u16], text: &mut [u8; TEXT], at: usize) -> usize
-    ensures { Puts text at (font_answer line (given font)) result }
+    ensures { Puts text at (font_answer line font.now) result }
 {
     if line.command == names::CHECK {
         return check(line, font, text, at);

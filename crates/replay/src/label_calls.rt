@@ -1,6 +1,5 @@
 // The calls that measure and paint a label: measure, paint.
 ghost use Rattle.std.specs.Prelude.{◌≡◌, [], ◌∷◌, length};
-ghost use Rattle.words.specs.Lent.{given};
 ghost use Rattle.paint.specs.Label.{call_of, reply_of, measure_of, reply_number, reply_pen, reply_substitutes};
 ghost use Rattle.replay.specs.Lines.{signed_of};
 ghost use Rattle.replay.specs.Answers.{label_answer};
@@ -77,13 +76,13 @@ pub fn label(line: Line, first: usize) -> Label
 }
 
 fn measure(line: Line, font: &[u16], text: &[u8]) -> Reply
-    ensures { result ≡ measure_of (given font) (signed_of line 0) (given text) }
+    ensures { result ≡ measure_of font.now (signed_of line 0) text.now }
 {
     paint::measure(font, line.signed(0), text)
 }
 
 fn paint(line: Line, font: &[u16], text: &[u8], panel: &mut [u16]) -> Reply
-    ensures { result ≡ reply_of (shape_of line 0) (length (given panel) ∷ []) (call_of (given font) (label_of line 3) (given text)) }
+    ensures { result ≡ reply_of (shape_of line 0) (length panel.old ∷ []) (call_of font.now (label_of line 3) text.now) }
 {
     paint::paint(font, shape(line, 0), label(line, 3), text, panel)
 }
@@ -98,7 +97,7 @@ pub fn answer(
     text: &mut [u8; TEXT],
     at: usize,
 ) -> usize
-    ensures { Puts text at (label_answer line (given font) (given label) held (given lent)) result }
+    ensures { Puts text at (label_answer line font.now label.now held lent.old) result }
 {
     if line.command == names::MEASURE {
         return put_reply(text, at, line, measure(line, font, label));

@@ -3,7 +3,6 @@
 // themselves. No call but `join` is lent two registers of one array: where the panel is lent, the counts are handed by value. Behind the
 // registers in `files` stand the words that the last conversion wrote.
 ghost use Rattle.std.specs.Prelude.{◌≡◌, ◌%◌, length};
-ghost use Rattle.words.specs.Lent.{given, after};
 ghost use Rattle.replay.specs.Text.{Puts, list_bytes};
 ghost use Rattle.replay.specs.Answers.{widen_after, shown_bytes, register_bytes, values_spread, show_answer, values_shown};
 ghost use Rattle.replay.specs.Registers.{register, register_of, nothing_held, held_by, held_with, held_written, words_of};
@@ -129,8 +128,8 @@ impl Held {
 
 // Copies the first `count` words to a place of another list, as far as there is room, and answers how many.
 pub fn copy(from: &[u16], count: usize, to: &mut [u16], place: usize, room: usize) -> usize
-    ensures value { result ≡ copied (given from) count (given to) place room }
-    ensures to { after to ≡ copy_after (given from) count (given to) place room }
+    ensures value { result ≡ copied from.now count to.old place room }
+    ensures to { to.new ≡ copy_after from.now count to.old place room }
 {
     if to.len() < place {
         return 0;
@@ -149,8 +148,8 @@ pub fn copy(from: &[u16], count: usize, to: &mut [u16], place: usize, room: usiz
 
 // Copies the first `count` words, which stand for bytes, and answers how many.
 pub fn narrow(from: &[u16], count: usize, to: &mut [u8]) -> usize
-    ensures value { result ≡ narrowed (given from) count (given to) }
-    ensures to { after to ≡ narrow_after (given from) count (given to) }
+    ensures value { result ≡ narrowed from.now count to.old }
+    ensures to { to.new ≡ narrow_after from.now count to.old }
 {
     let end = words::least(count, words::least(from.len(), to.len()));
     let mut i = 0;
@@ -169,8 +168,8 @@ fn low(word: u16) -> u8
 
 // Copies the first `count` bytes, which become words, and answers how many.
 fn widen(from: &[u8], count: usize, to: &mut [u16]) -> usize
-    ensures value { result ≡ narrowed (given from) count (given to) }
-    ensures to { after to ≡ widen_after (given from) count (given to) }
+    ensures value { result ≡ narrowed from.now count to.old }
+    ensures to { to.new ≡ widen_after from.now count to.old }
 {
     let end = words::least(count, words::least(from.len(), to.len()));
     let mut i = 0;
@@ -198,8 +197,8 @@ pub fn set(
     flips: &mut [u16; SHEETS],
     bytes: &mut [u8; BYTES],
 ) -> Held
-    ensures value { result ≡ held_after line (given values) held (at_entry files lent keeps flips bytes) }
-    ensures lent { at_exit files lent keeps flips bytes ≡ arrays_after line (given values) (at_entry files lent keeps flips bytes) }
+    ensures value { result ≡ held_after line values.now held (at_entry files lent keeps flips bytes) }
+    ensures lent { at_exit files lent keeps flips bytes ≡ arrays_after line values.now (at_entry files lent keeps flips bytes) }
 {
     let r = Register::named(line.command);
     let array = r.array;
@@ -226,8 +225,8 @@ pub fn show(
     text: &mut [u8; TEXT],
     at: usize,
 ) -> usize
-    ensures puts { Puts text at (show_answer line (given values) held (at_entry files lent keeps flips bytes)) result }
-    ensures values { after values ≡ values_shown line (given values) held (given bytes) }
+    ensures puts { Puts text at (show_answer line values.old held (at_entry files lent keeps flips bytes)) result }
+    ensures values { values.new ≡ values_shown line values.old held bytes.now }
 {
     if line.command != names::SHOW {
         return at;
@@ -252,8 +251,8 @@ fn put_register(
     text: &mut [u8; TEXT],
     at: usize,
 ) -> usize
-    ensures puts { Puts text at (register_bytes r.array r count (given values) (at_entry files lent keeps flips bytes)) result }
-    ensures values { after values ≡ values_spread r.array count (given values) (given bytes) }
+    ensures puts { Puts text at (register_bytes r.array r count values.old (at_entry files lent keeps flips bytes)) result }
+    ensures values { values.new ≡ values_spread r.array count values.old bytes.now }
 {
     let array = r.array;
     match array {
@@ -273,8 +272,8 @@ fn put_bytes(
     count: usize,
     values: &mut [u16; VALUES],
 ) -> usize
-    ensures puts { Puts text at (list_bytes 2 (shown_bytes (given bytes) count (given values))) result }
-    ensures values { after values ≡ widen_after (given bytes) count (given values) }
+    ensures puts { Puts text at (list_bytes 2 (shown_bytes bytes.now count values.old)) result }
+    ensures values { values.new ≡ widen_after bytes.now count values.old }
 {
     let spread = widen(bytes, count, values);
     put_list(text, at, words::part(values, 0, spread), 2)
@@ -282,7 +281,7 @@ fn put_bytes(
 
 // The words of a register, as a part of the array that it stands in.
 pub fn held_words(array: &[u16], held: Held, name: u64) -> &[u16]
-    ensures { result.now ≡ words_of (given array) held name }
+    ensures { result.now ≡ words_of array.now held name }
 {
     let r = Register::named(name);
     words::part(array, r.from, held.of(r))
@@ -290,7 +289,7 @@ pub fn held_words(array: &[u16], held: Held, name: u64) -> &[u16]
 
 // The same, for a call that may alter them.
 pub fn lent_words(array: &mut [u16], held: Held, name: u64) -> &mut [u16]
-    ensures { result.now ≡ words_of (given array) held name }
+    ensures { result.now ≡ words_of array.old held name }
 {
     let r = Register::named(name);
     let from = words::least(r.from, array.len());
@@ -300,8 +299,8 @@ pub fn lent_words(array: &mut [u16], held: Held, name: u64) -> &mut [u16]
 
 // Keeps the words that a conversion wrote, the first `count` of `out`, for `out` may be set before they are asked for.
 pub fn keep_written(held: Held, count: usize, lent: &[u16], files: &mut [u16]) -> Held
-    ensures value { result ≡ kept_after held count (given lent) (given files) }
-    ensures files { after files ≡ files_kept held count (given lent) (given files) }
+    ensures value { result ≡ kept_after held count lent.now files.old }
+    ensures files { files.new ≡ files_kept held count lent.now files.old }
 {
     let out = held_words(lent, held, names::OUT);
     held.with_written(copy(out, count, files, WRITTEN, MOST_WRITTEN))
@@ -309,9 +308,9 @@ pub fn keep_written(held: Held, count: usize, lent: &[u16], files: &mut [u16]) -
 
 // Makes the words kept the font. They go by way of the place of a line's values, since both stand in one array.
 pub fn font_from_written(held: Held, values: &mut [u16; VALUES], files: &mut [u16]) -> Held
-    ensures value { result ≡ held_from_written held (given values) (given files) }
-    ensures values { after values ≡ values_from_written held (given values) (given files) }
-    ensures files { after files ≡ files_from_written held (given values) (given files) }
+    ensures value { result ≡ held_from_written held values.old files.old }
+    ensures values { values.new ≡ values_from_written held values.old files.old }
+    ensures files { files.new ≡ files_from_written held values.old files.old }
 {
     let kept = words::part(files, WRITTEN, held.written);
     let count = copy(kept, MOST_WRITTEN, values, 0, MOST_WRITTEN);
@@ -321,15 +320,15 @@ pub fn font_from_written(held: Held, values: &mut [u16; VALUES], files: &mut [u1
 
 // Where the words of the panel end in `lent`, which they stand first in.
 pub fn panel_end(held: Held, lent: &[u16]) -> usize
-    ensures { result ≡ length (words_of (given lent) held panel) }
+    ensures { result ≡ length (words_of lent.now held panel) }
 {
     held_words(lent, held, names::PANEL).len()
 }
 
 // Makes these words the register `counts`.
 pub fn keep_counts(held: Held, words: &[u16], lent: &mut [u16]) -> Held
-    ensures value { result ≡ held_with_counts held (given words) (given lent) }
-    ensures lent { after lent ≡ lent_with_counts (given words) (given lent) }
+    ensures value { result ≡ held_with_counts held words.now lent.old }
+    ensures lent { lent.new ≡ lent_with_counts words.now lent.old }
 {
     let r = Register::named(names::COUNTS);
     held.with(r, copy(words, r.room, lent, r.from, r.room))

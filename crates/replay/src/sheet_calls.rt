@@ -1,6 +1,5 @@
 // The calls on sheets: fresh, gather, join, apply.
 ghost use Rattle.std.specs.Prelude.{◌≡◌};
-ghost use Rattle.words.specs.Lent.{given, after};
 ghost use Rattle.paint.specs.Sheet.{sheet_of};
 ghost use Rattle.sheets.specs.Sheet.{gather_reply};
 ghost use Rattle.replay.specs.Text.{Puts};
@@ -25,7 +24,7 @@ pub fn put_refusal(text: &mut [u8; TEXT], at: usize, line: Line, number: u32) ->
 }
 
 fn gather(line: Line, font: &[u16], text: &[u8], keep: &mut [u16], flip: &mut [u16]) -> Reply
-    ensures { result ≡ gather_reply (shape_of line 1) (gather_call line (given font) (given text)) (sheet_of (given keep) (given flip)) }
+    ensures { result ≡ gather_reply (shape_of line 1) (gather_call line font.now text.now) (sheet_of keep.old flip.old) }
 {
     sheets::gather(font, shape(line, 1), label(line, 4), text, keep, flip)
 }
@@ -39,8 +38,8 @@ fn join(
     keeps: &mut [u16],
     flips: &mut [u16],
 ) -> u32
-    ensures value { result ≡ join_refusal line (given values) held (given keeps) (given flips) }
-    ensures values { after values ≡ join_spread (given values) held (given keeps) (given flips) }
+    ensures value { result ≡ join_refusal line values.old held keeps.old flips.old }
+    ensures values { values.new ≡ join_spread values.old held keeps.old flips.old }
 {
     let keep = registers::held_words(keeps, held, names::KEEP2);
     let kept = registers::copy(keep, SLICE, values, 0, SLICE);
@@ -65,8 +64,8 @@ pub fn answer_join(
     flips: &mut [u16],
     text: &mut [u8; TEXT],
 ) -> usize
-    ensures puts { Puts text state.at (join_answer line (given values) state.held (given keeps) (given flips)) result }
-    ensures values { after values ≡ join_values line (given values) state.held (given keeps) (given flips) }
+    ensures puts { Puts text state.at (join_answer line values.old state.held keeps.old flips.old) result }
+    ensures values { values.new ≡ join_values line values.old state.held keeps.old flips.old }
 {
     let held = state.held;
     if line.command == names::JOIN {
@@ -85,7 +84,7 @@ pub fn answer_gather(
     flips: &mut [u16],
     text: &mut [u8; TEXT],
 ) -> usize
-    ensures { Puts text state.at (gather_answer line (given font) (given codes) state.held (given keeps) (given flips)) result }
+    ensures { Puts text state.at (gather_answer line font.now codes.now state.held keeps.old flips.old) result }
 {
     if line.command != names::GATHER {
         return state.at;
@@ -106,7 +105,7 @@ pub fn answer(
     flips: &mut [u16],
     text: &mut [u8; TEXT],
 ) -> usize
-    ensures { Puts text state.at (sheet_answer line state.held (given lent) (given keeps) (given flips)) result }
+    ensures { Puts text state.at (sheet_answer line state.held lent.old keeps.old flips.old) result }
 {
     let held = state.held;
     let at = state.at;

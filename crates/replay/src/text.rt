@@ -1,7 +1,6 @@
 // The answers' text, gathered in an array and written out where that is full. Each function puts something behind the first `at` bytes and
 // answers how many there are then.
 ghost use Rattle.std.specs.Prelude.{◌≡◌, ◌<◌, [], ◌∷◌, ◌++◌, nat_abs, length, take};
-ghost use Rattle.words.specs.Lent.{given, after};
 ghost use Rattle.replay.specs.Text.{waiting, with_byte, Puts, character_of, pair_bytes, name_bytes, decimal};
 ghost use Rattle.replay.specs.Text.{number_bytes, negative_bytes, signed_bytes, digit_of, low_bytes, value_bytes, run_bytes, list_bytes};
 ghost use Rattle.replay.specs.Text.{RunEnds};
@@ -11,7 +10,7 @@ use libc::STDOUT_FILENO;
 pub const TEXT: usize = 65_536;
 
 pub fn put(text: &mut [u8; TEXT], at: usize, b: u8) -> usize
-    ensures { waiting (after text) result ≡ with_byte (waiting (given text) at) b }
+    ensures { waiting text.new result ≡ with_byte (waiting text.old at) b }
 {
     if at < TEXT {
         text[at] = b;
@@ -24,7 +23,7 @@ pub fn put(text: &mut [u8; TEXT], at: usize, b: u8) -> usize
 
 // The first `count` bytes; fewer where there are no more.
 pub fn start(bytes: &[u8], count: usize) -> &[u8]
-    ensures { result.now ≡ take count (given bytes) }
+    ensures { result.now ≡ take count bytes.now }
 {
     if bytes.len() <= count {
         return bytes;
@@ -33,7 +32,7 @@ pub fn start(bytes: &[u8], count: usize) -> &[u8]
 }
 
 fn put_all(text: &mut [u8; TEXT], at: usize, bytes: &[u8]) -> usize
-    ensures { Puts text at (given bytes) result }
+    ensures { Puts text at bytes.now result }
 {
     let mut end = at;
     let mut i = 0;
@@ -169,7 +168,7 @@ fn put_run(text: &mut [u8; TEXT], at: usize, word: u16, width: u32, count: u64) 
 fn run_end(list: &[u16], from: usize) -> usize
     requires { from < length list.now }
     ensures lower_bound { from < result }
-    ensures run { RunEnds (given list) from result }
+    ensures run { RunEnds list.now from result }
 {
     let word = list[from];
     let mut i = from + 1;
@@ -184,7 +183,7 @@ fn run_end(list: &[u16], from: usize) -> usize
 
 // A list of words or bytes, each run of equal ones as one field.
 pub fn put_list(text: &mut [u8; TEXT], at: usize, list: &[u16], width: u32) -> usize
-    ensures { Puts text at (list_bytes width (given list)) result }
+    ensures { Puts text at (list_bytes width list.now) result }
 {
     let mut end = at;
     let mut i = 0;

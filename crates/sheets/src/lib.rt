@@ -1,6 +1,7 @@
 // Sheets: what labels do to a panel, gathered, joined and applied later.
+#![tactic(auto)]
+
 ghost use Rattle.std.specs.Prelude.{◌≡◌, ◌≤◌, length};
-ghost use Rattle.words.specs.Lent.{given, after};
 ghost use Rattle.words.specs.Word.{over};
 ghost use Rattle.words.specs.Effect.{altered};
 ghost use Rattle.paint.specs.Panel.{panel_words};
@@ -16,7 +17,7 @@ use words::Effect;
 // The first n words become this one.
 fn fill(list: &mut [u16], n: usize, word: u16)
     requires { n ≤ length list.old }
-    ensures { after list ≡ over n (λ i. word) (given list) }
+    ensures { list.new ≡ over n (λ i. word) list.old }
 {
     let mut i = 0;
     while i < n {
@@ -27,9 +28,9 @@ fn fill(list: &mut [u16], n: usize, word: u16)
 
 // Makes a fresh sheet: one of effects that alter nothing.
 pub fn fresh(s: Shape, keep: &mut [u16], flip: &mut [u16]) -> u32
-    ensures value { result ≡ fresh_number s (sheet_of (given keep) (given flip)) }
-    ensures keep { after keep ≡ (fresh_after s (sheet_of (given keep) (given flip))).keep }
-    ensures flip { after flip ≡ (fresh_after s (sheet_of (given keep) (given flip))).flip }
+    ensures value { result ≡ fresh_number s (sheet_of keep.old flip.old) }
+    ensures keep { keep.new ≡ (fresh_after s (sheet_of keep.old flip.old)).keep }
+    ensures flip { flip.new ≡ (fresh_after s (sheet_of keep.old flip.old)).flip }
 {
     if paint::bad_panel(s, words::least(keep.len(), flip.len())) {
         return 8;
@@ -44,7 +45,7 @@ pub fn fresh(s: Shape, keep: &mut [u16], flip: &mut [u16]) -> u32
 // Each of the first n words of the panel becomes its effect on it.
 fn apply_words(keep: &[u16], flip: &[u16], n: usize, panel: &mut [u16])
     requires { (n ≤ length keep.now) × ((n ≤ length flip.now) × (n ≤ length panel.old)) }
-    ensures { after panel ≡ altered 0 n (effect_at (sheet_of (given keep) (given flip))) (given panel) }
+    ensures { panel.new ≡ altered 0 n (effect_at (sheet_of keep.now flip.now)) panel.old }
 {
     let mut i = 0;
     while i < n {
@@ -55,8 +56,8 @@ fn apply_words(keep: &[u16], flip: &[u16], n: usize, panel: &mut [u16])
 
 // Applies a sheet to a panel.
 pub fn apply(s: Shape, keep: &[u16], flip: &[u16], panel: &mut [u16]) -> u32
-    ensures value { result ≡ apply_number s (sheet_of (given keep) (given flip)) (given panel) }
-    ensures panel { after panel ≡ apply_after s (sheet_of (given keep) (given flip)) (given panel) }
+    ensures value { result ≡ apply_number s (sheet_of keep.now flip.now) panel.old }
+    ensures panel { panel.new ≡ apply_after s (sheet_of keep.now flip.now) panel.old }
 {
     let sheet = words::least(keep.len(), flip.len());
     if paint::bad_panel(s, words::least(sheet, panel.len())) {
@@ -68,8 +69,8 @@ pub fn apply(s: Shape, keep: &[u16], flip: &[u16], panel: &mut [u16]) -> u32
 
 // Clears a panel.
 pub fn clear(s: Shape, panel: &mut [u16]) -> u32
-    ensures value { result ≡ clear_number s (given panel) }
-    ensures panel { after panel ≡ clear_after s (given panel) }
+    ensures value { result ≡ clear_number s panel.old }
+    ensures panel { panel.new ≡ clear_after s panel.old }
 {
     if paint::bad_panel(s, panel.len()) {
         return 8;
@@ -82,8 +83,8 @@ pub fn clear(s: Shape, panel: &mut [u16]) -> u32
 fn join_words(s: Shape, keep: &mut [u16], flip: &mut [u16], keep2: &[u16], flip2: &[u16])
     requires s_in_bounds { (panel_words s ≤ length keep.old) × (panel_words s ≤ length flip.old) }
     requires s_in_bounds_2 { (panel_words s ≤ length keep2.now) × (panel_words s ≤ length flip2.now) }
-    ensures keep { after keep ≡ (join_onto s (sheet_of (given keep) (given flip)) (sheet_of (given keep2) (given flip2))).keep }
-    ensures flip { after flip ≡ (join_onto s (sheet_of (given keep) (given flip)) (sheet_of (given keep2) (given flip2))).flip }
+    ensures keep { keep.new ≡ (join_onto s (sheet_of keep.old flip.old) (sheet_of keep2.now flip2.now)).keep }
+    ensures flip { flip.new ≡ (join_onto s (sheet_of keep.old flip.old) (sheet_of keep2.now flip2.now)).flip }
 {
     let n = s.panel_words();
     let mut i = 0;
@@ -98,9 +99,9 @@ fn join_words(s: Shape, keep: &mut [u16], flip: &mut [u16], keep2: &[u16], flip2
 
 // Joins a second sheet onto a first, which changes; the second stays.
 pub fn join(s: Shape, keep: &mut [u16], flip: &mut [u16], keep2: &[u16], flip2: &[u16]) -> u32
-    ensures value { result ≡ join_number s (sheet_of (given keep) (given flip)) (sheet_of (given keep2) (given flip2)) }
-    ensures keep { after keep ≡ (join_after s (sheet_of (given keep) (given flip)) (sheet_of (given keep2) (given flip2))).keep }
-    ensures flip { after flip ≡ (join_after s (sheet_of (given keep) (given flip)) (sheet_of (given keep2) (given flip2))).flip }
+    ensures value { result ≡ join_number s (sheet_of keep.old flip.old) (sheet_of keep2.now flip2.now) }
+    ensures keep { keep.new ≡ (join_after s (sheet_of keep.old flip.old) (sheet_of keep2.now flip2.now)).keep }
+    ensures flip { flip.new ≡ (join_after s (sheet_of keep.old flip.old) (sheet_of keep2.now flip2.now)).flip }
 {
     let first = words::least(keep.len(), flip.len());
     let shorter = words::least(first, keep2.len());
@@ -120,10 +121,10 @@ pub fn gather(
     keep: &mut [u16],
     flip: &mut [u16],
 ) -> Reply
-    ensures value { result ≡ gather_reply s (call_of (given font) l (given text)) (sheet_of (given keep) (given flip)) }
-    ensures keep { after keep ≡ (gather_after s (call_of (given font) l (given text)) (sheet_of (given keep) (given flip))).keep }
-    ensures flip { after flip ≡ (gather_after s (call_of (given font) l (given text)) (sheet_of (given keep) (given flip))).flip }
-    ensures numbers { TellsCall result s (lengths_of (given keep) (given flip)) (call_of (given font) l (given text)) }
+    ensures value { result ≡ gather_reply s (call_of font.now l text.now) (sheet_of keep.old flip.old) }
+    ensures keep { keep.new ≡ (gather_after s (call_of font.now l text.now) (sheet_of keep.old flip.old)).keep }
+    ensures flip { flip.new ≡ (gather_after s (call_of font.now l text.now) (sheet_of keep.old flip.old)).flip }
+    ensures numbers { TellsCall result s (lengths_of keep.old flip.old) (call_of font.now l text.now) }
 {
     match fonts::read(font) {
         Reading::Refused(number) => Reply::Refused(number),

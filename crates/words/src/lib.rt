@@ -1,5 +1,7 @@
 // Words of lent memory and their bits, and effects on a word of dots: what painting does to it, as a value that can be applied, joined
 // and kept in a sheet.
+#![tactic(auto)]
+
 ghost use Rattle.std.specs.Prelude.{◌≡◌, ◌+◌, ◌-◌, ◌*◌, ◌/◌, ◌%◌, min, length, take, drop};
 ghost use Rattle.words.specs.Word.{word, bit_of, put_bit, words_of, bytes_of, odd_bytes, over};
 ghost use Rattle.words.specs.Refusal.{not_within};
@@ -7,7 +9,7 @@ ghost use Rattle.words.specs.Place.{outside, place_of, place_of_word};
 ghost use Rattle.words.specs.Effect.{effect, identity, paint_of, erase_of, invert_of, effect_of, mode_of, join_of, apply_to};
 
 // How the dots of a picture change the dots of the panel.
-#[derive(Drop)]
+#[derive(Clone, Copy)]
 pub enum Mode {
     Paint,
     Erase,
@@ -30,7 +32,7 @@ impl Mode {
 }
 
 // Applied to a word d, it leaves (d AND keep) XOR flip.
-#[derive(Drop)]
+#[derive(Clone, Copy)]
 pub struct Effect {
     pub keep: u16,
     pub flip: u16,
