@@ -1,0 +1,24 @@
+-- `paint::join_text` meets its contract. The invariant: keep and flip, with the whole text joined onto them, are what they are now with the
+-- rest of the text joined onto them, from this pen.
+-- Assumes nothing.
+use Prim.Native.Nat.{◌-◌, ◌≤◌}
+use mathlib.Core.Path.{◌≡◌}
+use lib.ListN.{length, drop}
+use Rattle.words.proofs.Altering.{AllWords}
+use Rattle.words.proofs.Clearing.{whole, clears}
+use Rattle.fonts.specs.Face.{face_from}
+use Rattle.paint.specs.Pen.{pen_along, steps_of}
+use Rattle.paint.proofs.Along.{Gone}
+use Rattle.paint.proofs.Labels.{drawn}
+use Rattle.paint.proofs.join_text.Given as goal
+
+abbrev pub invariant-loop-i : goal.invariant-loop-i
+invariant-loop-i l =
+    (l.i ≤ length l.text) × (length l.keep ≡ length l.initial.keep) × (length l.flip ≡ length l.initial.flip) × AllWords l.keep × AllWords l.flip
+    × (drawn clears (face_from l.v l.font) l.k l.initial.pen l.text l.initial.keep ≡ drawn clears (face_from l.v l.font) l.k l.pen (drop l.i l.text) l.keep)
+    × (drawn whole (face_from l.v l.font) l.k l.initial.pen l.text l.initial.flip ≡ drawn whole (face_from l.v l.font) l.k l.pen (drop l.i l.text) l.flip)
+    × (pen_along (steps_of (face_from l.v l.font)) l.initial.pen l.text ≡ pen_along (steps_of (face_from l.v l.font)) l.pen (drop l.i l.text))
+    × Gone l.initial.pen l.pen l.i
+
+abbrev pub decreases-loop-i : goal.decreases-loop-i
+decreases-loop-i l = length l.text - l.i

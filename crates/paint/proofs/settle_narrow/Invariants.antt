@@ -1,0 +1,16 @@
+-- `paint::settle_narrow` meets its contract, as `paint::draw_narrow` does: but each turn draws on flip, and on keep by Erase.
+-- Assumes nothing.
+use Prim.Native.Nat.{◌-◌, ◌≤◌}
+use mathlib.Core.Path.{◌≡◌}
+use Rattle.words.specs.Effect.{mode_of}
+use Rattle.paint.specs.Reach.{rows_drawn}
+use Rattle.paint.proofs.Drawing.{AtRow}
+use Rattle.paint.proofs.settle_narrow.Given as goal
+
+abbrev pub invariant-loop-row : goal.invariant-loop-row
+invariant-loop-row l =
+    (l.row ≤ l.r.rows) × AtRow l.r l.row l.from l.at
+    × (l.keep ≡ rows_drawn l.font l.r (mode_of 1) l.row l.initial.keep) × (l.flip ≡ rows_drawn l.font l.r (mode_of l.mode) l.row l.initial.flip)
+
+abbrev pub decreases-loop-row : goal.decreases-loop-row
+decreases-loop-row l = l.r.rows - l.row

@@ -1,0 +1,60 @@
+use Prim.Native.Nat.{ℕ, ◌+◌, ◌-◌, ◌≤◌, ◌<◌}
+use mathlib.Core.Path.{◌≡◌, ap, ◌∙◌}
+use native.Mathlib.Omega.{arith}
+use lib.ListN.{length}
+use Rattle.words.specs.Effect.{mode_of}
+use Rattle.paint.specs.Reach.{rows_drawn}
+use Rattle.paint.proofs.Drawing.{at-first-row, at-next-row, row_inside, row-source, row_at, row-in-file}
+use Rattle.paint.proofs.Drawing.{span-tests, nothing-drawn, rows-room, row_more}
+use Rattle.paint.proofs.settle_pair.Goals as goal
+use Rattle.paint.proofs.settle_pair.Goals.{After-settle_two, At-loop-row}
+
+keep-room : (b : At-loop-row) → length b.loop-row.keep ≡ length b.args.keep.now
+keep-room b = rows-room b.args.font.now b.args.r (mode_of 1) b.loop-row.row _ _ b.loop-row.invariant.2
+
+flip-room : (b : At-loop-row) → length b.loop-row.flip ≡ length b.args.flip.now
+flip-room b = rows-room b.args.font.now b.args.r (mode_of b.args.mode) b.loop-row.row _ _ b.loop-row.invariant.3
+
+in-keep : (b : At-loop-row) → (less : b.loop-row.row < b.args.r.rows) → b.loop-row.at + b.args.r.last < length b.loop-row.keep
+in-keep b less = let here = row_inside b.args.r _ _ _ b.loop-row.invariant.1 less _ b.requires.within in omega (arith, (keep-room b))
+
+in-flip : (b : At-loop-row) → (less : b.loop-row.row < b.args.r.rows) → b.loop-row.at + b.args.r.last < length b.loop-row.flip
+in-flip b less = let here = row_inside b.args.r _ _ _ b.loop-row.invariant.1 less _ b.requires.within_2 in omega (arith, (flip-room b))
+
+far : (b : At-loop-row) → (less : b.loop-row.row < b.args.r.rows) → b.loop-row.from + b.args.r.raster ≤ 17196646400
+far b less = row-source b.args.r _ _ _ b.loop-row.invariant.1 less _ b.requires.within
+
+low : (b : At-loop-row) → (less : b.loop-row.row < b.args.r.rows) → b.loop-row.at + b.args.r.rowwords ≤ 98303
+low b less = row_at b.args.r _ _ _ b.loop-row.invariant.1 less _ b.requires.within
+
+in-file : (b : At-loop-row) → (less : b.loop-row.row < b.args.r.rows) → b.loop-row.from + b.args.r.last + 1 < length b.args.font.now
+in-file b less = row-in-file b.args.r _ _ _ b.loop-row.invariant.1 less _ (span-tests b.args.r 1 (length b.args.font.now) b.requires.font_value).1
+
+less : (c : After-settle_two) → c.loop-row.row < c.args.r.rows
+less c = c.loop-row-test.true
+
+pub loop-row-init : goal.loop-row-init
+loop-row-init c = (omega arith, at-first-row c.args.r, nothing-drawn _ _ _ _, nothing-drawn _ _ _ _)
+
+pub settle_two-requires : goal.settle_two-requires
+settle_two-requires c =
+    let taken = c.loop-row-test.true in
+    record { last_in_bounds = (in-keep (goal.at.settle_two-requires c).At-loop-row taken, in-flip (goal.at.settle_two-requires c).At-loop-row taken, omega (arith, low (goal.at.settle_two-requires c).At-loop-row taken), (span-tests c.args.r 1 (length c.args.font.now) c.requires.font_value).0); from_bound = (omega (arith, far (goal.at.settle_two-requires c).At-loop-row taken), c.requires.within.7, in-file (goal.at.settle_two-requires c).At-loop-row taken) }
+
+pub overflow_add-from : goal.overflow_add-from
+overflow_add-from c = omega (arith, far (goal.at.overflow_add-from c).At-loop-row (less (goal.at.overflow_add-from c).After-settle_two))
+
+pub overflow_add-at : goal.overflow_add-at
+overflow_add-at c = omega (arith, low (goal.at.overflow_add-at c).At-loop-row (less (goal.at.overflow_add-at c).After-settle_two))
+
+pub loop-row-preserved : goal.loop-row-preserved
+loop-row-preserved c =
+    let here = c.loop-row.invariant.1 in (
+      omega (arith, less (goal.at.loop-row-preserved c).After-settle_two),
+      at-next-row c.args.r c.loop-row.row _ _ here,
+      row_more c.args.font.now c.args.r (mode_of 1) _ _ _ _ _ _ here c.loop-row.invariant.2 c.settle_two.ensures.keep,
+      row_more c.args.font.now c.args.r (mode_of c.args.mode) _ _ _ _ _ _ here c.loop-row.invariant.3 c.settle_two.ensures.flip,
+    )
+
+pub returns : goal.returns
+returns c = let there : c.loop-row.row ≡ c.args.r.rows = omega arith in record { keep = c.loop-row.invariant.2 ∙ ap (λ (n : ℕ). rows_drawn c.args.font.now c.args.r (mode_of 1) n c.args.keep.now) there; flip = c.loop-row.invariant.3 ∙ ap (λ (n : ℕ). rows_drawn c.args.font.now c.args.r (mode_of c.args.mode) n c.args.flip.now) there }
