@@ -8,7 +8,7 @@ use native.Mathlib.Nat.{mul-zero, mul-one, add-mul, mul_comm, mul-le-mul_right, 
 use native.Mathlib.Nat.{le_antisymm, lt_of_not-le, lt_of_le_of_lt}
 use native.Mathlib.Omega.{arith}
 use lib.Bits.{bit_and, and_le_r, and_lt}
-use lib.Count.{ones, ones_step, ones-le}
+use lib.Count.{ones, ones_step}
 use lib.Pow.{shr-shr}
 use lib.Dec.{eqb, leb, ltb}
 use borrow.Author.Tests.{eqb-true, eqb-false, leb-true, leb-false, ltb-true, ltb-false, lt-ltb}

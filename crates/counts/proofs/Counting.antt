@@ -1,5 +1,5 @@
 -- What the loops over the rows of a band have in common: where they are, and what a turn adds, for one word of a row and for four.
-use Prim.Native.Nat.{ℕ, ◌+◌, ◌-◌, ◌*◌, ◌<◌, ◌≤◌}
+use Prim.Native.Nat.{ℕ, ◌+◌, ◌*◌, ◌<◌, ◌≤◌}
 use mathlib.Core.Path.{◌≡◌, refl, sym, ap, ap₂, ◌∙◌}
 use native.Mathlib.Nat.{add-mul, one-mul, zero-mul, mul-le-mul_right, mul-le-mul, lt_of_le_of_lt}
 use native.Mathlib.Omega.{arith}

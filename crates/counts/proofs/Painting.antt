@@ -1,6 +1,6 @@
 -- Painting with counts: the label's own strip alone decides, by its lit dots in the rows that the label may reach, and only its count
 -- moves.
-use Prim.Native.Nat.{ℕ, ◌+◌, ◌-◌, ◌*◌, ◌<◌, ◌≤◌}
+use Prim.Native.Nat.{ℕ, ◌+◌, ◌-◌, ◌*◌, ◌≤◌}
 use mathlib.Core.Path.{◌≡◌, refl, sym, ap, ap₂, ◌∙◌}
 use mathlib.Core.Bool.{Bool, true, false, cond, ◌||◌}
 use mathlib.Core.List.{List, [], ◌∷◌}
@@ -15,7 +15,6 @@ use Rattle.words.specs.Effect.{altered}
 use Rattle.words.proofs.Altering.{AllWords, altered-length}
 use Rattle.words.proofs.Over.{over-one}
 use Rattle.fonts.specs.declared.View.{View}
-use Rattle.fonts.specs.Reading.{font_number}
 use Rattle.fonts.specs.Face.{Face, face_from, face_of}
 use Rattle.paint.specs.declared.Shape.{Shape}
 use Rattle.paint.specs.declared.Label.{Label}
@@ -24,7 +23,6 @@ use Rattle.paint.specs.Panel.{panel_words}
 use Rattle.paint.specs.Label.{Call, call_of, number_with, call_number, effect_with, paint_after, paint_with, reply_for, reply_of, last_pen}
 use Rattle.paint.proofs.Replies.{number_read, paint-read, replies-refused}
 use Rattle.paint.proofs.Accepted.{accepted-label}
-use Rattle.counts.specs.declared.Painted.{Painted}
 use Rattle.counts.specs.Lit.{lit, area, gained, lost, leaves, some_over, count_number, new_counts, counted_of}
 use Rattle.counts.specs.Calls.{paint_counted, painted_of, refused_by}
 use Rattle.counts.specs.Band.{lit_reached, left_reached, Read}

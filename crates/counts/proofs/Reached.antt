@@ -1,5 +1,5 @@
 -- The rows that a label may reach: they are on the panel, and in every other row of its strip painting changes nothing.
-use Prim.Native.Nat.{ℕ, zero, suc, ◌+◌, ◌-◌, ◌*◌, ◌/◌, ◌%◌, ◌<◌, ◌≤◌, min}
+use Prim.Native.Nat.{ℕ, ◌+◌, ◌-◌, ◌*◌, ◌/◌, ◌%◌, ◌<◌, ◌≤◌}
 use mathlib.Core.Path.{◌≡◌, refl, sym, ap, ap₂, ◌∙◌}
 use mathlib.Core.Bool.{false}
 use mathlib.Core.List.{List, [], ◌∷◌}
@@ -12,7 +12,6 @@ use Rattle.words.specs.Search.{sum_below}
 use Rattle.words.specs.Effect.{identity, join_of, apply_to}
 use Rattle.words.proofs.Effects.{identity-join, apply-identity}
 use Rattle.words.proofs.Altering.{AllWords, from_zero}
-use Rattle.words.specs.Place.{place_of}
 use Rattle.fonts.specs.declared.View.{View}
 use Rattle.paint.specs.declared.Shape.{Shape}
 use Rattle.paint.specs.declared.Label.{Label}

@@ -1,5 +1,5 @@
 -- What a label would leave lit, found out on a copy of the strip's words in one row: these are the words that painting leaves there.
-use Prim.Native.Nat.{ℕ, ◌+◌, ◌-◌, ◌*◌, ◌/◌, ◌<◌, ◌≤◌}
+use Prim.Native.Nat.{ℕ, ◌+◌, ◌*◌, ◌<◌, ◌≤◌}
 use mathlib.Core.Path.{◌≡◌, refl, sym, ap, ap₂, ◌∙◌}
 use mathlib.Core.Bool.{Bool, true, false, cond, ◌||◌, ◌&&◌}
 use mathlib.Core.List.{List, [], ◌∷◌}
@@ -11,7 +11,6 @@ use lib.Dec.{eqb, ltb, leb}
 use lib.ListN.{length}
 use borrow.Author.Tests.{le-ltb, le-leb}
 use Rattle.words.specs.Word.{word}
-use Rattle.words.specs.Search.{sum_below}
 use Rattle.words.specs.Refusal.{first_of, or_else, not_within}
 use Rattle.words.specs.Effect.{apply_to, altered}
 use Rattle.words.proofs.Altering.{from_zero, altered-length}
@@ -20,8 +19,8 @@ use Rattle.words.proofs.Search.{sum_same}
 use Rattle.fonts.specs.Face.{Face}
 use Rattle.paint.specs.declared.Shape.{Shape}
 use Rattle.paint.specs.declared.Label.{Label}
-use Rattle.paint.specs.Panel.{strip_of, panel_words, one_row, bad_sides, bad_shape, some_short, bad_panel, panel_number}
-use Rattle.paint.specs.Label.{label_number, number_with, effect_with, paint_with, row_with}
+use Rattle.paint.specs.Panel.{panel_words, one_row, bad_sides, bad_shape, some_short, bad_panel, panel_number}
+use Rattle.paint.specs.Label.{number_with, effect_with, paint_with, row_with}
 use Rattle.paint.proofs.Accepted.{good-panel, accepted-label}
 use Rattle.paint.proofs.Replies.{panel-good, label-good}
 use Rattle.counts.specs.declared.Band.{Band}
