@@ -2,7 +2,8 @@
 use Rattle.claims.specs.Cases.{sheet_from, done, small_cu, small_font}
 use Rattle.claims.specs.Fonts.{shown, held, measured, painted_on, painted, gathered, printed}
 use Rattle.claims.specs.Fonts.{plain_font, bare_font, empty_font, plain_wide, kerned_wide, kerned_right, kerned_bare}
-use Rattle.claims.specs.Fonts.{wide_cu, wide_written, fixed_cu, fixed_written, spelt_cases, plain_cases, blob_cases, wide_cases, written_cases}
+use Rattle.claims.specs.Fonts.{wide_cu, wide_written, fixed_cu, fixed_written, spelt_cases, plain_cases, blob_cases, wide_cases}
+use Rattle.claims.specs.Fonts.{written_cases}
 use Rattle.claims.specs.Edges.{font, painted as paintedAt, gathered as gatheredAt}
 use Rattle.claims.specs.Edges.{one_wide, fifteen_wide, sixteen_wide, seventeen_wide, thirty_three_wide, two_rows, on_sheets}
 use Rattle.claims.specs.Limits.{plain_file, kerned_file, short_files, formats, code_limits, size_limits, box_limits, length_limits}
@@ -10,7 +11,8 @@ use Rattle.claims.specs.Limits.{pointer_limits, dummy_limits, unread, font_limit
 use Rattle.claims.specs.Limits.{shape_limits, slice_limits, label_limits, measure_limits, call_limits}
 use Rattle.claims.specs.Limits.{one_dot, odd_limits, cu_size_limits, cu_count_limits, cu_limits}
 use Rattle.claims.specs.Limits.{cu_code_limits, spacing_limits, drawing_limits, room_limits, writing_limits}
-use Rattle.claims.specs.Limits.{beside, in_order, plain_flaws, kerned_flaws, paint_flaws, measure_flaws, painted_by, measured_by, label_order}
+use Rattle.claims.specs.Limits.{beside, in_order, plain_flaws, kerned_flaws, paint_flaws, measure_flaws, painted_by, measured_by}
+use Rattle.claims.specs.Limits.{label_order}
 use Rattle.claims.specs.Limits.{cu_flaws, converted_by, printed_by, plan_flaws, planned_by, conversion_order}
 use Rattle.claims.specs.Counts.{painted as paintedCounting, refused_painting, lost_painting, cleared, applied, spare_applied}
 use Rattle.claims.specs.Counts.{count_limits, lit_dots}
@@ -53,7 +55,8 @@ edge_tables = tt
 
 -- the limits
 unfoldable pub file_limits : Unit {0}
-unfolding plain_file kerned_file short_files formats code_limits size_limits box_limits length_limits pointer_limits dummy_limits unread font_limits
+unfolding plain_file kerned_file short_files formats code_limits size_limits box_limits length_limits pointer_limits dummy_limits unread
+    font_limits
 file_limits = tt
 
 unfoldable pub calls : Unit {0}
@@ -61,7 +64,8 @@ unfolding shape_limits slice_limits label_limits measure_limits call_limits
 calls = tt
 
 unfoldable pub conversions : Unit {0}
-unfolding one_dot odd_limits cu_size_limits cu_count_limits cu_limits cu_code_limits spacing_limits drawing_limits room_limits writing_limits
+unfolding one_dot odd_limits cu_size_limits cu_count_limits cu_limits cu_code_limits spacing_limits drawing_limits room_limits
+    writing_limits
 conversions = tt
 
 unfoldable pub label_flaws : Unit {0}
@@ -115,5 +119,6 @@ unfolding index_fonts index_seen index_tables index_limits index_at_limits large
 index = tt
 
 unfoldable pub computing : Unit {0}
-unfolding below count_tables worked_cases fonts seen font_tables edge_tables file_limits calls conversions label_flaws conversion_flaws index
+unfolding below count_tables worked_cases fonts seen font_tables edge_tables file_limits calls conversions label_flaws conversion_flaws
+    index
 computing = tt

@@ -19,7 +19,8 @@ use Rattle.paint.specs.declared.Label.{Label}
 use Rattle.paint.specs.declared.Stroke.{Stroke}
 use Rattle.paint.specs.declared.Pen.{Pen}
 use Rattle.paint.specs.Panel.{panel_words}
-use Rattle.paint.specs.Pen.{pen_at, pen_after, steps_of, stroke_of, in_strip, dot_along, mark, mask_from, mask_at, picture_effect, label_effect}
+use Rattle.paint.specs.Pen.{pen_at, pen_after, steps_of, stroke_of, in_strip, dot_along, mark, mask_from, mask_at, picture_effect}
+use Rattle.paint.specs.Pen.{label_effect}
 use Rattle.paint.specs.Sheet.{Sheet, lengths, joined}
 use Rattle.paint.specs.Label.{call_of, number_with, call_number, last_pen, reply_for, reply_of, effect_with, paint_after, join_with}
 use Rattle.paint.specs.Label.{number_after, measure_for, measure_of}

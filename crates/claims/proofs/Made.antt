@@ -22,11 +22,14 @@ use Rattle.fonts.specs.declared.Header.{Header}
 use Rattle.fonts.specs.declared.Body.{Body}
 use Rattle.fonts.specs.declared.Strike.{Strike}
 use Rattle.fonts.specs.declared.Name.{Name}
-use Rattle.fonts.specs.Strike.{count_at, header_by, header_of, kerned, index, codes, map_at, map_of, first_at, body_of, start_from, strike_at}
+use Rattle.fonts.specs.Strike.{count_at, header_by, header_of, kerned, index, codes, map_at, map_of, first_at, body_of, start_from}
+use Rattle.fonts.specs.Strike.{strike_at}
 use Rattle.fonts.specs.Strike.{bitmap_words, pointer_count, pointers_of, behind, widths_of}
 use Rattle.fonts.specs.Entry.{name_of, name_in, marked}
-use Rattle.fonts.specs.Reading.{too_short, bad_format, kerned_too_short, bad_codes, bad_count, bad_box, front_number, bad_sizes, wrong_length}
-use Rattle.fonts.specs.Reading.{wrong_end, head_number, bad_pointers, body_number, bodies_number, pairs_in, lost, lost_at, nameless, no_dummy}
+use Rattle.fonts.specs.Reading.{too_short, bad_format, kerned_too_short, bad_codes, bad_count, bad_box, front_number, bad_sizes}
+use Rattle.fonts.specs.Reading.{wrong_length}
+use Rattle.fonts.specs.Reading.{wrong_end, head_number, bad_pointers, body_number, bodies_number, pairs_in, lost, lost_at, nameless}
+use Rattle.fonts.specs.Reading.{no_dummy}
 use Rattle.fonts.specs.Reading.{table_number, number_by, font_number}
 use Rattle.claims.proofs.Parts.{whole_words, front-word, count-word, map-words, rest-words, whole_length, by_index, index-added}
 use Rattle.claims.proofs.Parts.{kerned-kept, top_kept, still-word, low-kept}
@@ -278,7 +281,8 @@ module _ (ws : List ℕ) (from : Single ws) where
     where
       start : word ws' (first_at h + later ws) ≡ word ws (first_at h)
       start =
-          ap (λ (i : ℕ). word ws' i) (sym (add-zero (first_at h + later ws))) ∙ word-is 0 ∙ ap (λ (i : ℕ). word ws i) (add-zero (first_at h))
+          ap (λ (i : ℕ). word ws' i) (sym (add-zero (first_at h + later ws))) ∙ word-is 0
+          ∙ ap (λ (i : ℕ). word ws i) (add-zero (first_at h))
 
   abbrev s : Strike
   s = strike_at ws (first_at h)

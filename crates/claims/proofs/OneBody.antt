@@ -23,7 +23,8 @@ use Rattle.fonts.specs.Strike.{header_of, kerned, codes, height, first_at, body_
 use Rattle.fonts.specs.Strike.{pointers_of, widths_of}
 use Rattle.fonts.specs.Entry.{name_in, entry_with, marked, struck, present, columns_of, left_of, advance_of}
 use Rattle.fonts.specs.Reading.{bad_codes, number_by, font_number, accepted}
-use Rattle.fonts.specs.Face.{in_range, picture_of, strike_named, entry_in, exists, place_of_code, glyph_by, glyph_from, step_of, dot_of, face_from}
+use Rattle.fonts.specs.Face.{in_range, picture_of, strike_named, entry_in, exists, place_of_code, glyph_by, glyph_from, step_of, dot_of}
+use Rattle.fonts.specs.Face.{face_from}
 use Rattle.fonts.specs.Face.{face_of, row_of}
 use Rattle.paint.specs.declared.Shape.{Shape}
 use Rattle.paint.specs.declared.Label.{Label}

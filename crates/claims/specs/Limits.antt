@@ -1,7 +1,8 @@
 -- The limits of every refusal, and their order: the paper's "Numbers returned". A row is what the definitions give and what the paper says,
 -- which was worked out from the paper by hand: for each test the last value that is accepted and the first that is refused, and for every
 -- two refusals that one call can earn, which of them comes first.
-use Rattle.std.specs.Prelude.{ℕ, ◌+◌, Bool, true, false, cond, ◌&&◌, ◌||◌, List, [], ◌∷◌, ◌++◌, map, eqb, ℤ, pos, negsuc, replicate, set, take}
+use Rattle.std.specs.Prelude.{ℕ, ◌+◌, Bool, true, false, cond, ◌&&◌, ◌||◌, List, [], ◌∷◌, ◌++◌, map, eqb, ℤ, pos, negsuc, replicate, set}
+use Rattle.std.specs.Prelude.{take}
 use Rattle.words.specs.Word.{bytes_of}
 use Rattle.fonts.specs.Reading.{font_number}
 use Rattle.fontbytes.specs.File.{file_number}

@@ -11,7 +11,8 @@ use Rattle.words.specs.Refusal.{first_of, not_within}
 use Rattle.words.proofs.Search.{last-le}
 use Rattle.words.proofs.Passed.{neither, both, passed, within, stages-passed}
 use Rattle.convert.specs.Writing.{Drawing, bad_spacing, bad_offset, too_large, no_room, drawing_number, fbbdy, file_words}
-use Rattle.convert.specs.Cu.{rows, row_words, char_words, bad_size, bad_count, bad_code, no_origin, no_origin_at, code_place, has_dot, dot_in_row, row_used, lowest_of, bottom, frame_of, frame_from, drawing_of, drawing_from, cu_file_number}
+use Rattle.convert.specs.Cu.{rows, row_words, char_words, bad_size, bad_count, bad_code, no_origin, no_origin_at, code_place, has_dot}
+use Rattle.convert.specs.Cu.{dot_in_row, row_used, lowest_of, bottom, frame_of, frame_from, drawing_of, drawing_from, cu_file_number}
 use Rattle.convert.specs.Conversion.{cu_number}
 
 -- what a file promises that 20 to 23 do not refuse

@@ -8,7 +8,8 @@ use lib.Dec.{eqb}
 use borrow.Author.Tests.{eq-eqb, eqb-true, eqb-false}
 use Rattle.words.proofs.Digits.{bit-digit}
 use Rattle.words.proofs.Search.{some-here, first-lt, first_passes, first-least, last-passes, last-greatest}
-use Rattle.convert.specs.Cu.{rows, chars, char_at, raster_dot, width, dot_in_row, dot_in_column, has_dot, lowest_of, first_in_row, left_of, right_of, column_used, row_used, leftmost, rightmost, top, bottom}
+use Rattle.convert.specs.Cu.{rows, chars, char_at, raster_dot, width, dot_in_row, dot_in_column, has_dot, lowest_of, first_in_row, left_of}
+use Rattle.convert.specs.Cu.{right_of, column_used, row_used, leftmost, rightmost, top, bottom}
 use Rattle.convert.proofs.Codes.{Character}
 
 -- ---- one character

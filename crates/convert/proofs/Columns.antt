@@ -39,7 +39,8 @@ module _ (d : Drawing) where
   owner_at k j h here =
       let column = pointer_at d k + j in
       let next = pointer-next k in
-      first-here (ends_after column) (code_count d) k h (none_before k column (omega arith)) (lt-ltb column (pointer_at d (k + 1)) (omega arith))
+      first-here (ends_after column) (code_count d) k h (none_before k column (omega arith))
+      (lt-ltb column (pointer_at d (k + 1)) (omega arith))
 
   pub owner-dummy : (column : ℕ) → pointer_at d (code_count d) ≤ column → owner d column ≡ code_count d
   unfolding owner
@@ -52,7 +53,8 @@ module _ (d : Drawing) where
   strike-picture row k j h here =
       rw (owner_at k j h here, lt-ltb k (code_count d) h) (ap (d.dot (min_code d + k) row) (add-sub_cancel_left (pointer_at d k) j))
 
-  behind-pictures : (row column : ℕ) → pointer_at d (code_count d) ≤ column → strike_dot d row column ≡ cond (ltb column (all_columns d)) 1 0
+  behind-pictures : (row column : ℕ) → pointer_at d (code_count d) ≤ column
+      → strike_dot d row column ≡ cond (ltb column (all_columns d)) 1 0
   unfolding strike_dot
   behind-pictures row column from = rw (owner-dummy column from, le-ltb (code_count d) (code_count d) (omega arith))
 

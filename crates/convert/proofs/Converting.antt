@@ -18,7 +18,8 @@ module _ (ws : List ℕ) where
   source-number = either (eqb (cu_file_number ws) 0) refl
     where
       either : (t : Bool) → eqb (cu_file_number ws) 0 ≡ t
-          → (cond t (record { number = 0; places = places_of ws; frame = frame_of ws }) (no_source (cu_file_number ws))).number ≡ cu_file_number ws
+          → (cond t (record { number = 0; places = places_of ws; frame = frame_of ws }) (no_source (cu_file_number ws))).number
+          ≡ cu_file_number ws
       either true q = sym (eqb-true (cu_file_number ws) 0 q)
       either false q = refl
 
@@ -44,6 +45,7 @@ module _ (ws : List ℕ) where
   conversion-refused out n e some = rw (← e, ne_eqb n 0 some) (refl, refl)
 
   pub conversion-done : (out : List ℕ) → cu_number ws (length out) ≡ 0
-      → (Written (file_words (drawing_of ws)) ≡ conversion_of ws (length out)) × (file_of (drawing_of ws) ++ drop (file_words (drawing_of ws)) out ≡ output_after ws out)
+      → (Written (file_words (drawing_of ws)) ≡ conversion_of ws (length out))
+      × (file_of (drawing_of ws) ++ drop (file_words (drawing_of ws)) out ≡ output_after ws out)
   unfolding conversion_of output_after
   conversion-done out e = rw (eq-eqb (cu_number ws (length out)) 0 e) (refl, refl)

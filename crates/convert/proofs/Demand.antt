@@ -113,5 +113,6 @@ module _ (ws : List ℕ) (room : ℕ) (e : cu_number ws room ≡ 0) where
         let glyph = written-dummy (drawing_of ws) (sound ws room e) c absent in
         (ap (λ (g : Glyph). g.place) glyph, (ap (λ (g : Glyph). g.columns) glyph, ap (λ (g : Glyph). g.advance) glyph))
 
-    pub converted-dummy-dots : (r j : ℕ) → font.dot (font.glyph c) r j ≡ cond (ltb r (fbbdy (drawing_of ws)) && ltb j (drawing_of ws).fbbdx) 1 0
+    pub converted-dummy-dots : (r j : ℕ) → font.dot (font.glyph c) r j
+        ≡ cond (ltb r (fbbdy (drawing_of ws)) && ltb j (drawing_of ws).fbbdx) 1 0
     converted-dummy-dots r j = written-dummy-dot (drawing_of ws) (sound ws room e) r c j absent

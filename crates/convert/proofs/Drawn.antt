@@ -1,4 +1,5 @@
--- The drawing of an accepted CU file: what it has for each code, where its boxes lie from the origin, and that it is one that can be written.
+-- The drawing of an accepted CU file: what it has for each code, where its boxes lie from the origin, and that it is one that can be
+-- written.
 use Prim.Native.Nat.{ℕ, ◌+◌, ◌-◌, ◌<◌, ◌≤◌}
 use mathlib.Core.Path.{◌≡◌, refl, ◌∙◌}
 use mathlib.Core.Bool.{true, false}
@@ -10,7 +11,8 @@ use Rattle.words.specs.Place.{place_of_word}
 use Rattle.words.proofs.Tables.{table_at}
 use Rattle.words.proofs.Search.{some-here, last-le}
 use Rattle.convert.specs.Writing.{fbbdy}
-use Rattle.convert.specs.Cu.{rows, width, code_place, places_of, raster_dot, has_dot, lowest_of, first_in_row, left_of, right_of, columns_across, row_used, leftmost, top, bottom, frame_of, frame_from, left_from, drawing_of, drawing_from}
+use Rattle.convert.specs.Cu.{rows, width, code_place, places_of, raster_dot, has_dot, lowest_of, first_in_row, left_of, right_of}
+use Rattle.convert.specs.Cu.{columns_across, row_used, leftmost, top, bottom, frame_of, frame_from, left_from, drawing_of, drawing_from}
 use Rattle.convert.specs.Conversion.{cu_number}
 use Rattle.convert.specs.Shown.{origin_row, origin_column}
 use Rattle.convert.proofs.Sound.{Sound}
@@ -42,7 +44,8 @@ module _ (ws : List ℕ) where
     unfolding drawing_of drawing_from
     drawn-columns = rw place-in-table
 
-    pub drawn-across : has_dot ws (code_place ws c) ≡ true → (drawing_of ws).columns c ≡ right_of ws (code_place ws c) - left_of ws (code_place ws c) + 1
+    pub drawn-across : has_dot ws (code_place ws c) ≡ true
+        → (drawing_of ws).columns c ≡ right_of ws (code_place ws c) - left_of ws (code_place ws c) + 1
     unfolding columns_across
     drawn-across dotted = drawn-columns ∙ rw dotted
 
@@ -50,7 +53,8 @@ module _ (ws : List ℕ) where
     unfolding columns_across
     drawn-empty none = drawn-columns ∙ rw none
 
-    pub drawn-dot : (row column : ℕ) → (drawing_of ws).dot c row column ≡ raster_dot ws (code_place ws c) (top ws + row) (left_of ws (code_place ws c) + column)
+    pub drawn-dot : (row column : ℕ) → (drawing_of ws).dot c row column
+        ≡ raster_dot ws (code_place ws c) (top ws + row) (left_of ws (code_place ws c) + column)
     unfolding drawing_of drawing_from frame_of frame_from
     drawn-dot row column = rw place-in-table
 

@@ -6,7 +6,8 @@ use native.Mathlib.Omega.{arith}
 use lib.ListN.{length}
 use Rattle.words.specs.Word.{word, table}
 use Rattle.words.proofs.Tables.{table-length, table_at, joined_length, joined-first, joined-second}
-use Rattle.convert.specs.Writing.{Drawing, code_count, fbbdy, raster_of, bitmap_word, pointer_word, width_entry, header_words, file_of, file_words}
+use Rattle.convert.specs.Writing.{Drawing, code_count, fbbdy, raster_of, bitmap_word, pointer_word, width_entry, header_words, file_of}
+use Rattle.convert.specs.Writing.{file_words}
 
 module _ (d : Drawing) where
   abbrev bitmap : List ℕ
@@ -38,7 +39,8 @@ module _ (d : Drawing) where
   file-length = let sum = widths-end in omega arith
 
   -- the words before the last table, before the last two, and before the last three
-  before-widths : (i : ℕ) → i < 13 + raster_of d * fbbdy d + (code_count d + 2) → word (file_of d) i ≡ word (header_words d ++ bitmap ++ pointers_written) i
+  before-widths : (i : ℕ) → i < 13 + raster_of d * fbbdy d + (code_count d + 2)
+      → word (file_of d) i ≡ word (header_words d ++ bitmap ++ pointers_written) i
   unfolding file_of
   before-widths i h = joined-first (header_words d ++ bitmap ++ pointers_written) widths_written _ pointers-end i h
 

@@ -15,7 +15,9 @@ use Rattle.words.proofs.Passed.{neither}
 use Rattle.words.proofs.Search.{none_below}
 use Rattle.convert.specs.declared.cu.Frame.{Frame}
 use Rattle.convert.specs.declared.Layout.{Layout}
-use Rattle.convert.specs.Writing.{Drawing, min_code, max_code, code_count, columns_of, pointer_at, all_columns, raster_of, fbbdy, strike_dot, pointer_word, width_entry, max_width, bad_spacing, bad_offset, too_large, length_word, header_words, bitmap_word, file_of, file_words, layout_of}
+use Rattle.convert.specs.Writing.{Drawing, min_code, max_code, code_count, columns_of, pointer_at, all_columns, raster_of, fbbdy}
+use Rattle.convert.specs.Writing.{strike_dot, pointer_word, width_entry, max_width, bad_spacing, bad_offset, too_large, length_word}
+use Rattle.convert.specs.Writing.{header_words, bitmap_word, file_of, file_words, layout_of}
 use Rattle.convert.specs.Cu.{raster_dot, columns_at, left_from, drawing_from}
 use Rattle.convert.specs.Bitmap.{picture_dot, raster_at}
 use Rattle.convert.proofs.Columns.{pointer-next, pointer-rises, raster-holds, strike-picture}
@@ -46,7 +48,8 @@ unfolding raster_of
 raster-least d = omega arith
 
 -- what the layout says of the file's size
-pub large-by : (d : Drawing) (l : Layout) → l ≡ layout_of d → (ltb 65535 l.columns || ltb 65535 (l.raster * l.rows + l.codes + 7)) ≡ too_large d
+pub large-by : (d : Drawing) (l : Layout) → l ≡ layout_of d
+    → (ltb 65535 l.columns || ltb 65535 (l.raster * l.rows + l.codes + 7)) ≡ too_large d
 unfolding too_large length_word layout_of
 large-by d l e = ap (λ (l : Layout). ltb 65535 l.columns || ltb 65535 (l.raster * l.rows + l.codes + 7)) e
 
@@ -105,7 +108,8 @@ file-parts : (d : Drawing) (out : List ℕ)
     → header_words d
     ++ (table (raster_of d * fbbdy d) (bitmap_word d)
     ++ (table (code_count d + 2) (pointer_word d)
-    ++ (table (code_count d + 1) (width_entry d) ++ drop (code_count d + 1) (drop (code_count d + 2) (drop (raster_of d * fbbdy d) (drop 13 out))))))
+    ++ (table (code_count d + 1) (width_entry d) ++ drop (code_count d + 1)
+    (drop (code_count d + 2) (drop (raster_of d * fbbdy d) (drop 13 out))))))
     ≡ file_of d ++ drop (file_words d) out
 unfolding file_of file_words
 file-parts d out =
@@ -113,8 +117,10 @@ file-parts d out =
     let bitmap = table (raster_of d * fbbdy d) (bitmap_word d) in
     let pointers = table (code_count d + 2) (pointer_word d) in
     let widths = table (code_count d + 1) (width_entry d) in
-    let sum : 13 + raster_of d * fbbdy d + (code_count d + 2) + (code_count d + 1) ≡ raster_of d * fbbdy d + 2 * code_count d + 16 = omega arith in
-    let dropped : drop (code_count d + 1) (drop (code_count d + 2) (drop (raster_of d * fbbdy d) (drop 13 out))) ≡ drop (raster_of d * fbbdy d + 2 * code_count d + 16) out =
+    let sum : 13 + raster_of d * fbbdy d + (code_count d + 2) + (code_count d + 1) ≡ raster_of d * fbbdy d + 2 * code_count d + 16 =
+    omega arith in
+    let dropped : drop (code_count d + 1) (drop (code_count d + 2) (drop (raster_of d * fbbdy d) (drop 13 out)))
+    ≡ drop (raster_of d * fbbdy d + 2 * code_count d + 16) out =
     ap (λ (q : List ℕ). drop (code_count d + 1) (drop (code_count d + 2) q)) (drop-drop (raster_of d * fbbdy d) 13 out)
     ∙ ap (drop (code_count d + 1)) (drop-drop (code_count d + 2) (13 + raster_of d * fbbdy d) out)
     ∙ drop-drop (code_count d + 1) (13 + raster_of d * fbbdy d + (code_count d + 2)) out
@@ -149,7 +155,8 @@ module _ (ws : List ℕ) (frame : Frame) (places : List ℕ) where
   own-columns c = refl
 
   -- the columns of a code's picture are those of its raster, from its own box on
-  pub own-picture : (k row j : ℕ) → k < code_count (drawing_from ws frame places) → j < columns_of (drawing_from ws frame places) (min_code (drawing_from ws frame places) + k)
+  pub own-picture : (k row j : ℕ) → k < code_count (drawing_from ws frame places)
+      → j < columns_of (drawing_from ws frame places) (min_code (drawing_from ws frame places) + k)
       → strike_dot (drawing_from ws frame places) row (pointer_at (drawing_from ws frame places) k + j)
       ≡ picture_dot ws (raster_at ws frame (word places (min_code (drawing_from ws frame places) + k))) row j
   unfolding drawing_from picture_dot raster_at
@@ -164,16 +171,20 @@ module _ (ws : List ℕ) (frame : Frame) (places : List ℕ) where
   fits-of true wide far both spacing offset = rw ((neither wide both spacing).0, offset)
   fits-of false wide far both spacing offset = refl
 
-  pub entry-fits : length places ≡ 256 → bad_spacing (drawing_from ws frame places) ≡ false → bad_offset (drawing_from ws frame places) ≡ false
-      → (c : ℕ) → (ltb 0 (word places c) && (ltb 255 (word ws (word places c + 1)) || ltb 255 (left_from ws frame (word places c) - frame.left))) ≡ false
+  pub entry-fits : length places ≡ 256 → bad_spacing (drawing_from ws frame places) ≡ false
+      → bad_offset (drawing_from ws frame places) ≡ false
+      → (c : ℕ) → (ltb 0 (word places c) && (ltb 255 (word ws (word places c + 1)) || ltb 255
+      (left_from ws frame (word places c) - frame.left))) ≡ false
   unfolding bad_spacing bad_offset drawing_from
   entry-fits long spacings offsets c = below-or-past (ltb c 256) refl
     where
       below-or-past : (t : Bool) → ltb c 256 ≡ t
-          → (ltb 0 (word places c) && (ltb 255 (word ws (word places c + 1)) || ltb 255 (left_from ws frame (word places c) - frame.left))) ≡ false
+          → (ltb 0 (word places c) && (ltb 255 (word ws (word places c + 1)) || ltb 255 (left_from ws frame (word places c) - frame.left)))
+          ≡ false
       below-or-past true q =
           let less = ltb-true c 256 q in
-          fits-of (ltb 0 (word places c)) (ltb 255 (word ws (word places c + 1))) _ _ (none_below _ 256 c spacings less) (none_below _ 256 c offsets less)
+          fits-of (ltb 0 (word places c)) (ltb 255 (word ws (word places c + 1))) _ _ (none_below _ 256 c spacings less)
+          (none_below _ 256 c offsets less)
       below-or-past false q =
           let past = ltb-false c 256 q in
           let none : word places c ≡ 0 = sym (past_end places c (omega arith)) in

@@ -22,7 +22,8 @@ module _ (ws : List ℕ) (good : bad_size ws ≡ false) where
   width_few : width ws ≤ 256
   unfolding bad_size width
   width_few =
-      let words = (within 1 16 (row_words ws) (neither (ltb (length ws) 2 || not_within 1 128 (rows ws)) (not_within 1 16 (row_words ws)) good).1).1 in
+      let words = (within 1 16 (row_words ws) (neither (ltb (length ws) 2 || not_within 1 128 (rows ws)) (not_within 1 16 (row_words ws))
+      good).1).1 in
       omega arith
 
   pub lowest-few : (place : ℕ) → lowest_of ws place ≤ 128

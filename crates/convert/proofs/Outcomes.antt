@@ -14,7 +14,8 @@ use Rattle.convert.proofs.cu.left_of as left-of
 use Rattle.convert.proofs.cu.columns_across as columns-across
 use Rattle.convert.proofs.cu.offset as offset
 
-pub convert-one : (κs : Lfts 2) (a : Dens κs convert.Kinds.ps) (r o : (res_t convert.Kinds.r κs).Denot) (e e' : AtExit (ended_of 2 convert.Kinds.ps convert.Kinds.r) κs)
+pub convert-one : (κs : Lfts 2) (a : Dens κs convert.Kinds.ps) (r o : (res_t convert.Kinds.r κs).Denot)
+    (e e' : AtExit (ended_of 2 convert.Kinds.ps convert.Kinds.r) κs)
     → convert.Reads.Post κs a r e → convert.Reads.Post κs a o e'
     → (r ≡ o) × (e.1.0.now ≡ e'.1.0.now)
 convert-one κs a r o e e' p q = (p.0 ∙ sym q.0, p.1.0 ∙ sym q.1.0)

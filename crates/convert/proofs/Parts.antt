@@ -13,7 +13,8 @@ use Rattle.fonts.specs.declared.Strike.{Strike}
 use Rattle.fonts.specs.declared.View.{View}
 use Rattle.fonts.specs.Strike.{kerned_format, index_format, count_at, header_by, header_of, view_of}
 use Rattle.fonts.specs.Strike.{first_at, body_of, first_strike, pointer_count, pointers_of, widths_of}
-use Rattle.convert.specs.Writing.{Drawing, min_code, max_code, code_count, fbbdy, raster_of, pointer_at, all_columns, all_equal, format_word, max_width, length_word, pointer_word, width_entry, header_words, file_of, file_words}
+use Rattle.convert.specs.Writing.{Drawing, min_code, max_code, code_count, fbbdy, raster_of, pointer_at, all_columns, all_equal}
+use Rattle.convert.specs.Writing.{format_word, max_width, length_word, pointer_word, width_entry, header_words, file_of, file_words}
 use Rattle.convert.proofs.File.{pointers_written, widths_written, file-length, file-pointer, file-entry}
 
 module _ (d : Drawing) where
@@ -102,7 +103,8 @@ module _ (d : Drawing) where
   widths-read =
       let long = file-length d in
       rw widths-start
-      (part-table (file_of d) (13 + raster_of d * fbbdy d + (code_count d + 2)) (code_count d + 1) (width_entry d) (omega arith) (file-entry d))
+      (part-table (file_of d) (13 + raster_of d * fbbdy d + (code_count d + 2)) (code_count d + 1) (width_entry d) (omega arith)
+      (file-entry d))
 
   -- ---- the tables, word by word
 
@@ -112,7 +114,8 @@ module _ (d : Drawing) where
 
   pub pointer-end : word (pointers_written d) (code_count d + 1) ≡ all_columns d
   unfolding pointer_word
-  pointer-end = table_at (code_count d + 2) (pointer_word d) (code_count d + 1) (omega arith) ∙ rw (lt-ltb (code_count d) (code_count d + 1) (omega arith))
+  pointer-end = table_at (code_count d + 2) (pointer_word d) (code_count d + 1) (omega arith)
+      ∙ rw (lt-ltb (code_count d) (code_count d + 1) (omega arith))
 
   pub entry-at : (k : ℕ) → k < code_count d
       → word (widths_written d) k ≡ cond (d.present (min_code d + k)) (d.offset (min_code d + k) * 256 + d.spacing (min_code d + k)) 0xFFFF

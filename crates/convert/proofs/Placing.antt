@@ -66,31 +66,37 @@ module _ (ws : List ℕ) where
         there-or-not false h = rw (first-none (coded c) n h, le-ltb n n (omega arith)) (le-ltb 0 0 (omega arith))
 
   -- what the code asks of the table is what the definition asks of the characters
-  bad-by-table : (k code : ℕ) → (ltb 255 code || ltb 0 (word (table 256 (place_among ws k)) code)) ≡ (ltb 255 code || some_below k (coded code))
+  bad-by-table : (k code : ℕ) → (ltb 255 code || ltb 0 (word (table 256 (place_among ws k)) code))
+      ≡ (ltb 255 code || some_below k (coded code))
   bad-by-table k code = over-or-not (ltb 255 code) refl
     where
-      over-or-not : (t : Bool) → ltb 255 code ≡ t → (t || ltb 0 (word (table 256 (place_among ws k)) code)) ≡ (t || some_below k (coded code))
+      over-or-not : (t : Bool) → ltb 255 code ≡ t
+          → (t || ltb 0 (word (table 256 (place_among ws k)) code)) ≡ (t || some_below k (coded code))
       over-or-not true q = refl
       over-or-not false q =
           let within : code ≤ 255 = ltb-false 255 code q in
           ap (ltb 0) (table_at 256 (place_among ws k) code (omega arith)) ∙ placed-there k code
 
   places-next : (k code : ℕ) → code ≡ word ws (char_at ws k)
-      → cond (ltb 255 code || some_below k (coded code)) (table 256 (place_among ws k)) (set (table 256 (place_among ws k)) code (char_at ws k))
+      → cond (ltb 255 code || some_below k (coded code)) (table 256 (place_among ws k))
+      (set (table 256 (place_among ws k)) code (char_at ws k))
       ≡ table 256 (place_among ws (k + 1))
   places-next k code is = by_tests (ltb 255 code) refl (some_below k (coded code)) refl
     where
-      this-or-other : (c : ℕ) (t : Bool) → eqb (word ws (char_at ws k)) c ≡ t → some_below k (coded code) ≡ true → place_among ws k c ≡ place_among ws (k + 1) c
+      this-or-other : (c : ℕ) (t : Bool) → eqb (word ws (char_at ws k)) c ≡ t → some_below k (coded code) ≡ true
+          → place_among ws k c ≡ place_among ws (k + 1) c
       this-or-other c true q there =
           let same : code ≡ c = is ∙ eqb-true (word ws (char_at ws k)) c q in
           sym (place-there k c (ap (λ (d : ℕ). some_below k (coded d)) (sym same) ∙ there))
       this-or-other c false q there = sym (place_other k c q)
 
       by_tests : (over : Bool) → ltb 255 code ≡ over → (there : Bool) → some_below k (coded code) ≡ there
-          → cond (over || there) (table 256 (place_among ws k)) (set (table 256 (place_among ws k)) code (char_at ws k)) ≡ table 256 (place_among ws (k + 1))
+          → cond (over || there) (table 256 (place_among ws k)) (set (table 256 (place_among ws k)) code (char_at ws k))
+          ≡ table 256 (place_among ws (k + 1))
       by_tests true p there q =
           let large : 255 < code = ltb-true 255 code p in
-          table_same 256 (place_among ws k) (place_among ws (k + 1)) (λ c less. sym (place_other k c (ne_eqb (word ws (char_at ws k)) c (λ e. absurd (omega arith)))))
+          table_same 256 (place_among ws k) (place_among ws (k + 1))
+          (λ c less. sym (place_other k c (ne_eqb (word ws (char_at ws k)) c (λ e. absurd (omega arith)))))
       by_tests false p true q =
           table_same 256 (place_among ws k) (place_among ws (k + 1)) (λ c less. this-or-other c (eqb (word ws (char_at ws k)) c) refl q)
       by_tests false p false q =

@@ -32,7 +32,8 @@ module _ (ws : List ℕ) (picture : Picture) (column at raster : ℕ) (inside : 
   put = column_word ws picture column at raster bitmap
 
   -- the word of a row that has the column, and the others
-  here : (row : ℕ) → put (row * raster + at / 16) ≡ put_bit (word bitmap (row * raster + at / 16)) (at % 16) (picture_dot ws picture row column)
+  here : (row : ℕ) → put (row * raster + at / 16)
+      ≡ put_bit (word bitmap (row * raster + at / 16)) (at % 16) (picture_dot ws picture row column)
   unfolding column_word
   here row =
       let less : at / 16 < raster = omega arith in
@@ -136,7 +137,8 @@ module _ (ws : List ℕ) (picture : Picture) (at raster : ℕ) (bitmap : List �
       bits = picture_bit ws picture c at raster bitmap i
 
       in-word : (t : Bool) → eqb (i % raster) ((at + c) / 16) ≡ t
-          → cond t (put_bit w ((at + c) % 16) (picture_dot ws picture (i / raster) c)) w ≡ word_of (picture_bit ws picture (c + 1) at raster bitmap i)
+          → cond t (put_bit w ((at + c) % 16) (picture_dot ws picture (i / raster) c)) w
+          ≡ word_of (picture_bit ws picture (c + 1) at raster bitmap i)
       in-word true q =
           word-of-same _ _
           (λ j less.
@@ -146,11 +148,13 @@ module _ (ws : List ℕ) (picture : Picture) (at raster : ℕ) (bitmap : List �
           (sym (ap (λ (v : ℕ). bit_of v j) e ∙ bit-word-of bits (picture-digit c i) j less))))
       in-word false q =
           e ∙ word-of-same _ _
-          (λ j less. sym (more c i j less ∙ ap (λ (t : Bool). cond (t && eqb j ((at + c) % 16)) (picture_dot ws picture (i / raster) c) (bits j)) q))
+          (λ j less. sym (more c i j less ∙ ap (λ (t : Bool). cond (t && eqb j ((at + c) % 16)) (picture_dot ws picture (i / raster) c)
+          (bits j)) q))
 
   -- what a turn of the loop over the columns does
   pub picture-column : (c n : ℕ) → n ≤ length bitmap
-      → over n (column_word ws picture c (at + c) raster (over n (picture_word ws picture c at raster bitmap) bitmap)) (over n (picture_word ws picture c at raster bitmap) bitmap)
+      → over n (column_word ws picture c (at + c) raster (over n (picture_word ws picture c at raster bitmap) bitmap))
+      (over n (picture_word ws picture c at raster bitmap) bitmap)
       ≡ over n (picture_word ws picture (c + 1) at raster bitmap) bitmap
   unfolding column_word
   picture-column c n fits =

@@ -8,7 +8,8 @@ use borrow.Author.Tests.{ltb-false, eqb-true, eqb-false}
 use Rattle.words.specs.Search.{some_below}
 use Rattle.words.specs.Place.{place_of_word}
 use Rattle.words.proofs.Search.{none_left, none_right, none_below, first-least, last-passes, last-greatest, most-le}
-use Rattle.convert.specs.Writing.{Drawing, min_code, max_code, code_count, fbbdy, columns_of, all_columns, raster_of, max_width, bad_spacing, bad_offset, too_large}
+use Rattle.convert.specs.Writing.{Drawing, min_code, max_code, code_count, fbbdy, columns_of, all_columns, raster_of, max_width}
+use Rattle.convert.specs.Writing.{bad_spacing, bad_offset, too_large}
 
 -- some code is there, 24, 25 and 26 do not refuse it, its box is one that a font may have, the dummy has columns, and a dot is 0 or 1
 pub record Sound (d : Drawing) : Type 0 where
@@ -85,7 +86,8 @@ module _ (d : Drawing) (s : Sound d) where
         not-both : (t : Bool) → eqb (d.spacing c) 255 ≡ t → d.offset c * 256 + d.spacing c < 0xFFFF
         not-both true q =
             let wide = eqb-true (d.spacing c) 255 q in
-            let other = eqb-false (d.offset c) 255 (of_two (eqb (d.spacing c) 255) (eqb (d.offset c) 255) q (none_right (ltb 255 (d.spacing c)) _ bad-spacing)) in
+            let other = eqb-false (d.offset c) 255
+            (of_two (eqb (d.spacing c) 255) (eqb (d.offset c) 255) q (none_right (ltb 255 (d.spacing c)) _ bad-spacing)) in
             omega (arith, offset-small, other)
         not-both false q =
             let other = eqb-false (d.spacing c) 255 q in

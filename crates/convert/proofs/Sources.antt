@@ -21,7 +21,8 @@ module _ (ws : List ℕ) where
   unfolding placed_of places_of
   origin-place placed same = ap (λ (p : Placed). word p.places 65) same ∙ table_at 256 (code_place ws) 65 (omega arith)
 
-  pub read-source : (placed : Placed) (frame : Frame) → 0 ≡ cu_file_number ws → placed ≡ placed_of ws → frame ≡ frame_from ws (word placed.places 65)
+  pub read-source : (placed : Placed) (frame : Frame) → 0 ≡ cu_file_number ws → placed ≡ placed_of ws
+      → frame ≡ frame_from ws (word placed.places 65)
       → ◌≡◌ {A = Source} (record { number = 0; places = placed.places; frame = frame }) (source_of ws)
   unfolding source_of placed_of frame_of
   read-source placed frame e same framed =

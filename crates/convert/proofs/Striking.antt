@@ -60,7 +60,8 @@ module _ (d : Drawing) (bits : (c r j : ℕ) → d.dot c r j < 2) (raster : ℕ)
 
   module _ (ws : List ℕ) (picture : Picture) (upto columns : ℕ)
       (same : (row j : ℕ) → j < columns → strike_dot d row (upto + j) ≡ picture_dot ws picture row j) where
-    one_word : (q : List ℕ) (i : ℕ) → word q i ≡ word_upto upto i → picture_word ws picture columns upto raster q i ≡ word_upto (upto + columns) i
+    one_word : (q : List ℕ) (i : ℕ) → word q i ≡ word_upto upto i
+        → picture_word ws picture columns upto raster q i ≡ word_upto (upto + columns) i
     unfolding picture_word picture_bit word_upto dot_upto
     one_word q i e =
         word-of-same _ _
@@ -72,7 +73,8 @@ module _ (d : Drawing) (bits : (c r j : ℕ) → d.dot c r j < 2) (raster : ℕ)
         (λ from until. sym (ap (strike_dot d (i / raster)) (sym (add-sub_of_le from)) ∙ same (i / raster) (column - upto) (omega arith))))
 
     pub strike-on : (n : ℕ) → n ≤ length lent
-        → over n (picture_word ws picture columns upto raster (over n (word_upto upto) lent)) (over n (word_upto upto) lent) ≡ over n (word_upto (upto + columns)) lent
+        → over n (picture_word ws picture columns upto raster (over n (word_upto upto) lent)) (over n (word_upto upto) lent)
+        ≡ over n (word_upto (upto + columns)) lent
     strike-on n fits =
         over-over n _ _ lent fits
         ∙ over-same n _ _ lent (λ i less. one_word (over n (word_upto upto) lent) i (over-at n (word_upto upto) lent i less fits))

@@ -1,4 +1,5 @@
--- A dot shown where some tests hold, and none elsewhere: the window that a written font has on a code's picture, and the one that a CU file has on
+-- A dot shown where some tests hold, and none elsewhere: the window that a written font has on a code's picture, and the one that a CU
+-- file has on
 -- its raster. Both show the same dots.
 use Prim.Native.Nat.{ℕ, ◌+◌, ◌-◌, ◌<◌, ◌≤◌}
 use mathlib.Core.Path.{◌≡◌, refl, sym, ap, ap₂, ◌∙◌}
@@ -24,7 +25,8 @@ use Rattle.convert.proofs.Codes.{character-there}
 use Rattle.convert.proofs.Boxes.{Dot, raster-bit, empty-dot, left-upto, right-from, left-right, right-inside, top-upto, bottom-from}
 use Rattle.convert.proofs.Drawn.{drawn-across, drawn-empty, drawn-dot, drawn-ascent, a, b, origin-row, box-rows, bottom-inside, own-place}
 
--- two windows show the same dots: where the first is open the second is too, on the same dot; and where the second shows a dot the first is open
+-- two windows show the same dots: where the first is open the second is too, on the same dot; and where the second shows a dot the first
+-- is open
 same-window : (s t : Bool) (m n : ℕ) → n < 2 → (s ≡ true → (t ≡ true) × (m ≡ n)) → (t ≡ true → n ≡ 1 → s ≡ true) → cond s m 0 ≡ cond t n 0
 same-window true t m n bit to from = let there = to refl in rw there.0 there.1
 same-window false true m n bit to from =

@@ -25,13 +25,15 @@ use Rattle.fonts.specs.Kinds.{only_bitmap, there as isThere, glyph_over}
 use Rattle.fonts.proofs.Found.{first-in}
 use Rattle.fonts.proofs.Struck.{struck-glyph}
 use Rattle.fonts.proofs.Falling.{rising}
-use Rattle.convert.specs.Writing.{Drawing, min_code, max_code, code_count, fbbdy, raster_of, pointer_at, all_columns, max_width, length_word, strike_dot, bitmap_word, pointer_word, file_of, file_words}
+use Rattle.convert.specs.Writing.{Drawing, min_code, max_code, code_count, fbbdy, raster_of, pointer_at, all_columns, max_width}
+use Rattle.convert.specs.Writing.{length_word, strike_dot, bitmap_word, pointer_word, file_of, file_words}
 use Rattle.convert.proofs.File.{pointers_written, widths_written, file-length, file-bitmap}
 use Rattle.convert.proofs.Parts.{of_format, format-kerned, format-single, header_written, body_written, view_written}
 use Rattle.convert.proofs.Parts.{header_read, body-start, body-read, view-read, first-strike, pointers-read, widths-read}
 use Rattle.convert.proofs.Parts.{pointer-at, pointer-end, entry-at, entry-dummy}
 use Rattle.convert.proofs.Columns.{pointer-next, pointer-rises, raster-holds, strike-picture, strike-dummy, strike-bit}
-use Rattle.convert.proofs.Sound.{Sound, from-min, upto-max, in-tables, counted, own-columns, max-small, min-max, raster-some, raster-narrow, spacing-small, entry-small, max-width-small}
+use Rattle.convert.proofs.Sound.{Sound, from-min, upto-max, in-tables, counted, own-columns, max-small, min-max, raster-some, raster-narrow}
+use Rattle.convert.proofs.Sound.{spacing-small, entry-small, max-width-small}
 
 is_within : (least most n : ℕ) → least ≤ n → n ≤ most → not_within least most n ≡ false
 unfolding not_within
@@ -190,7 +192,8 @@ glyph-read : (d : Drawing) (c : ℕ)
 unfolding face_of face_from glyph_from code_count
 glyph-read d c =
     rw (view-read d)
-    (struck-glyph (view_written d) (strike_in (view_written d) (file_of d)) (file_of d) (format-single d) (first-in (view_written d) (file_of d)) c
+    (struck-glyph (view_written d) (strike_in (view_written d) (file_of d)) (file_of d) (format-single d)
+    (first-in (view_written d) (file_of d)) c
     ∙ rw (first-strike d, pointers-read d, widths-read d))
 
 -- what the two bytes of a width entry read as
@@ -219,7 +222,13 @@ module _ (d : Drawing) (s : Sound d) (c : ℕ) (h : c < 256) (there : d.present 
   unfolding isThere in_range struck
   own-exists =
       let small = entry-small d s c h there in
-      rw (le-leb (min_code d) c (from-min d c there), le-leb c (max_code d) (upto-max d c there h), format-kerned d, own-entry, ne_eqb (d.offset c * 256 + d.spacing c) 0xFFFF (λ e. omega arith))
+      rw (
+        le-leb (min_code d) c (from-min d c there),
+        le-leb c (max_code d) (upto-max d c there h),
+        format-kerned d,
+        own-entry,
+        ne_eqb (d.offset c * 256 + d.spacing c) 0xFFFF (λ e. omega arith),
+      )
 
   pub written-glyph : (face_of (file_of d)).glyph c ≡ own_glyph d c
   unfolding glyph_over picture_of only_bitmap left_of advance_of fbbdy
@@ -308,8 +317,10 @@ module _ (d : Drawing) (s : Sound d) (row : ℕ) where
       let whole : 16 * w + column % 16 ≡ column = omega arith in
       ap (λ (n : ℕ). bit_of (word (file_of d) n) (column % 16)) (add_assoc 13 (row * raster_of d) w)
       ∙ ap (λ (n : ℕ). bit_of n (column % 16)) (file-bitmap d i (omega arith))
-      ∙ bit-word-of (λ j. strike_dot d (i / raster_of d) (16 * (i % raster_of d) + j)) (λ j. strike-bit d s.bits _ _) (column % 16) (omega arith)
-      ∙ ap₂ (λ (r n : ℕ). strike_dot d r (16 * n + column % 16)) (row_of row (raster_of d) w inside) (word-of-row row (raster_of d) w inside)
+      ∙ bit-word-of (λ j. strike_dot d (i / raster_of d) (16 * (i % raster_of d) + j)) (λ j. strike-bit d s.bits _ _) (column % 16)
+      (omega arith)
+      ∙ ap₂ (λ (r n : ℕ). strike_dot d r (16 * n + column % 16)) (row_of row (raster_of d) w inside)
+      (word-of-row row (raster_of d) w inside)
       ∙ ap (strike_dot d row) whole
 
   pub written-dot : (c column : ℕ) → c < 256 → d.present c ≡ true

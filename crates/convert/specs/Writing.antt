@@ -99,7 +99,8 @@ module _ (d : Drawing) where
       ∷ length_word ∷ d.ascent ∷ d.descent ∷ 0 ∷ raster_of ∷ []
 
   unfoldable pub file_of : List ℕ
-  file_of = header_words ++ table (raster_of * fbbdy) bitmap_word ++ table (code_count + 2) pointer_word ++ table (code_count + 1) width_entry
+  file_of = header_words ++ table (raster_of * fbbdy) bitmap_word ++ table (code_count + 2) pointer_word ++ table (code_count + 1)
+      width_entry
 
   -- "In all raster × height + 2n + 16 words."
   unfoldable pub file_words : ℕ

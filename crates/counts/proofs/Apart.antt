@@ -35,7 +35,8 @@ module _ (s : Shape) (call : Call) (panel : List ℕ) (words : AllWords panel) (
   unfolding plain_number plain_after
   strip-dot = by_number (eqb (call_number s (length panel ∷ []) call) 0) refl
     where
-      by_number : (t : Bool) → eqb (call_number s (length panel ∷ []) call) 0 ≡ t → panel_dot s (paint_after s call panel) row column ≡ made t
+      by_number : (t : Bool) → eqb (call_number s (length panel ∷ []) call) 0 ≡ t
+          → panel_dot s (paint_after s call panel) row column ≡ made t
       by_number true e =
           let accepted = sym (eqb-true (call_number s (length panel ∷ []) call) 0 e) in
           let fits = strip-fits k s.width s.rowwords small (panel-accepted s (length panel) call accepted).strips in

@@ -17,7 +17,8 @@ use Rattle.paint.specs.Label.{Call, paint_after}
 use Rattle.sheets.specs.Calls.{paint_all, of_strip, SameForStrips}
 use Rattle.sheets.proofs.Laws.{exchange-panel}
 use Rattle.counts.specs.Lit.{Counted, counted_of}
-use Rattle.counts.specs.Calls.{PanelCall, paint_counted, plain_number, plain_after, counted_by, counted_all, panel_after_all, counts_after_all}
+use Rattle.counts.specs.Calls.{PanelCall, paint_counted, plain_number, plain_after, counted_by, counted_all, panel_after_all}
+use Rattle.counts.specs.Calls.{counts_after_all}
 use Rattle.counts.specs.Calls.{own_answers, labels}
 use Rattle.counts.proofs.Agreeing.{counts-length, Held, still-held, AgreeOn, agree-itself, other-agrees, same_number, own-agrees}
 

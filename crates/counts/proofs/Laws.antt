@@ -130,7 +130,8 @@ module _ (s : Shape) (a b : Sheet) (la : Lent s a) (lb : Lent s b) where
   pub equal-count-alike : SameSheet s a b → (panel counts : List ℕ) → bad_panel s (length panel ∷ []) ≡ false
       → apply_counted s a panel counts ≡ apply_counted s b panel counts
   equal-count-alike same panel counts room =
-      ap (λ (n : ℕ). counted_of s n panel (apply_after s a panel) counts) (apply-good s a panel la room ∙ sym (apply-good s b panel lb room))
+      ap (λ (n : ℕ). counted_of s n panel (apply_after s a panel) counts)
+      (apply-good s a panel la room ∙ sym (apply-good s b panel lb room))
       ∙ ap (λ (p : List ℕ). counted_of s (apply_number s b panel) panel p counts) (equal-treat-alike s a b la lb same panel room)
 
   pub count-alike-are-equal

@@ -126,7 +126,8 @@ pub strike-accepted : (ws : List ℕ) → font_number ws ≡ 0 → (k : ℕ)
 unfolding strike_by strike_in view_of
 strike-accepted ws good k = small-or-not (ltb k 128) refl
   where
-    small-or-not : (t : Bool) → ltb k 128 ≡ t → strike_by (view_of ws) (bitmaps_of (view_of ws).header ws) ws k ≡ strike_in (view_of ws) ws k
+    small-or-not : (t : Bool) → ltb k 128 ≡ t → strike_by (view_of ws) (bitmaps_of (view_of ws).header ws) ws k
+        ≡ strike_in (view_of ws) ws k
     small-or-not true small = strike-tabled (view_of ws) ws k (ltb-true k 128 small)
     small-or-not false large =
         let past = ltb-false k 128 large in

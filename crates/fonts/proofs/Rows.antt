@@ -13,13 +13,15 @@ use borrow.Author.Tests.{eqb-true, eqb-false, ltb-true, ltb-false, lt-ltb, le-lt
 use Rattle.words.specs.Word.{word}
 use Rattle.words.proofs.Rows.{row_room}
 use Rattle.fonts.specs.declared.Strike.{Strike}
-use Rattle.fonts.specs.Strike.{header_of, view_of, height, bitmap_words, start_from, strike_at, strike_in, first_strike, no_strike, body_start}
+use Rattle.fonts.specs.Strike.{header_of, view_of, height, bitmap_words, start_from, strike_at, strike_in, first_strike, no_strike}
+use Rattle.fonts.specs.Strike.{body_start}
 use Rattle.fonts.specs.Reading.{font_number, accepted}
 use Rattle.fonts.specs.Face.{row_of}
 use Rattle.fonts.proofs.Accepted.{accepted-sound, accepted-body}
 
 -- a body that is there begins where the walk over the bodies finds it
-pub strike-there : (ws : List ℕ) (k : ℕ) → k < (header_of ws).bodies → strike_in (view_of ws) ws k ≡ strike_at ws (body_start (header_of ws) ws k)
+pub strike-there : (ws : List ℕ) (k : ℕ) → k < (header_of ws).bodies
+    → strike_in (view_of ws) ws k ≡ strike_at ws (body_start (header_of ws) ws k)
 unfolding strike_in first_strike view_of start_from
 strike-there ws zero less = refl
 strike-there ws (suc k) less = rw (ne_eqb (suc k) 0 (λ e. omega arith), lt-ltb (suc k) (header_of ws).bodies less)

@@ -1,5 +1,6 @@
 -- What a font file is refused for: the paper's "Numbers returned", 1 to 7, and P3's 15 and 16.
-use Rattle.std.specs.Prelude.{ℕ, zero, suc, ◌+◌, ◌-◌, ◌*◌, ◌%◌, ◌<◌, ◌≤◌, min, Bool, false, cond, not, ◌&&◌, ◌||◌, List, [], ◌∷◌, ltb, leb, eqb, length}
+use Rattle.std.specs.Prelude.{ℕ, zero, suc, ◌+◌, ◌-◌, ◌*◌, ◌%◌, ◌<◌, ◌≤◌, min, Bool, false, cond, not, ◌&&◌, ◌||◌, List, [], ◌∷◌, ltb, leb}
+use Rattle.std.specs.Prelude.{eqb, length}
 use Rattle.words.specs.Word.{word, bit_of, table, over}
 use Rattle.words.specs.Search.{some_below}
 use Rattle.words.specs.Refusal.{first_of, or_else, not_within}
@@ -102,7 +103,8 @@ EachHas h ws n fewest = (k : ℕ) → k < n → fewest ≤ pointer_count (body_o
 
 -- every entry of a map names one of so many bodies, and a picture that a body of so many pointers has
 abbrev pub NamesWithin : List ℕ → ℕ → ℕ → Type 0
-NamesWithin map bodies fewest = (k : ℕ) → k < length map → ((name_of (word map k)).body < bodies) × ((name_of (word map k)).code + 1 < fewest)
+NamesWithin map bodies fewest = (k : ℕ) → k < length map
+    → ((name_of (word map k)).body < bodies) × ((name_of (word map k)).code + 1 < fewest)
 
 -- 16: "a present map entry that names no body or no column pair in it": code + 1 is not the place of one of so many pointers
 unfoldable pub lost : Header → Name → ℕ → ℕ → Bool

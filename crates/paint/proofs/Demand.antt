@@ -37,7 +37,8 @@ use Rattle.paint.specs.declared.Reply.TheVariants.{Done}
 use Rattle.paint.specs.Panel.{panel_words, strip_of}
 use Rattle.paint.specs.Label.{Call, label_number, number_with, call_number, effect_with, call_effect, paint_after}
 use Rattle.paint.specs.Label.{last_pen, reply_for, reply_of, measure_number, number_after, measure_for, measure_of}
-use Rattle.paint.specs.Pen.{pen_at, pen_after, pen_along, steps_of, stroke_of, mark, mask_from, mask_at, picture_effect, label_effect, in_strip}
+use Rattle.paint.specs.Pen.{pen_at, pen_after, pen_along, steps_of, stroke_of, mark, mask_from, mask_at, picture_effect, label_effect}
+use Rattle.paint.specs.Pen.{in_strip}
 use Rattle.paint.specs.Rule.{panel_dot, Character, characters_from, characters_of, pen_behind, substitutes_in, landing, Lands}
 use Rattle.paint.specs.Rule.{dot_under, dot_under_all, dot_after, Each}
 use Rattle.paint.proofs.Marks.{mark-bit, mask_lt, strip-right-of, strip-left-of}
@@ -101,7 +102,8 @@ module _ (face : Face) (s : Shape) (l : Label) (known : outside l.y ≡ false) (
   dot-of ch = landing face.dot s l ch row column
 
   by-the-rule : (text : List ℕ) (pen : Pen) (x : ℤ) (dot : ℕ) → x ≡ number_at pen.place
-      → dot_under_label face (stroke_of s l) pen text row column dot ≡ dot_under_all (mode_of l.mode) dot-of (characters_from face x text) dot
+      → dot_under_label face (stroke_of s l) pen text row column dot
+      ≡ dot_under_all (mode_of l.mode) dot-of (characters_from face x text) dot
   unfolding dot_under_label dot_under_all characters_from stroke_of pen_after
   by-the-rule [] pen x dot same = refl
   by-the-rule (c ∷ text) pen x dot same =

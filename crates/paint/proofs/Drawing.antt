@@ -132,7 +132,8 @@ module _ (font : List ℕ) (r : Reach) (mode : Mode) where
 
   -- ---- a turn of a loop over the words, and over the rows
 
-  pub word_more : (from at w marks : ℕ) (now next lent : List ℕ) → now ≡ row_drawn font r mode from at w lent → marks ≡ row_marks font r from w
+  pub word_more : (from at w marks : ℕ) (now next lent : List ℕ) → now ≡ row_drawn font r mode from at w lent
+      → marks ≡ row_marks font r from w
       → next ≡ marked mode marks (at + w) now
       → next ≡ row_drawn font r mode from at (w + 1) lent
   unfolding row_drawn

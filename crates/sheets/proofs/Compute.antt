@@ -5,7 +5,8 @@ use Rattle.sheets.specs.Calls.{paint_all, paint_replies, gather_all, gather_repl
 use Rattle.paint.proofs.Compute.{computing as below}
 
 unfoldable pub calls : Unit {0}
-unfolding fresh_number fresh_after join_number join_after apply_number apply_after clear_number clear_after gather_reply gather_after SameSheet
+unfolding fresh_number fresh_after join_number join_after apply_number apply_after clear_number clear_after gather_reply gather_after
+    SameSheet
 calls = tt
 
 unfoldable pub computing : Unit {0}

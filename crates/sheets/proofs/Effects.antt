@@ -61,7 +61,8 @@ pub calls-cut : (s : Shape) (xs ys : List Call) (i : ℕ) → calls_effect s (xs
 unfolding calls_effect
 calls-cut s [] ys i = sym (identity-join (calls_effect s ys i) (calls-words s ys i))
 calls-cut s (x ∷ xs) ys i =
-    ap (join_of (step_effect s x i)) (calls-cut s xs ys i) ∙ sym (join-assoc (step_effect s x i) (calls_effect s xs i) (calls_effect s ys i))
+    ap (join_of (step_effect s x i)) (calls-cut s xs ys i)
+    ∙ sym (join-assoc (step_effect s x i) (calls_effect s xs i) (calls_effect s ys i))
 
 -- ---- painting a list
 

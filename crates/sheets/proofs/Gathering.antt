@@ -19,7 +19,8 @@ pub gather-refused : (s : Shape) (call : Call) (sheet : Sheet) (n : ℕ) → n �
 unfolding gather_after
 gather-refused s call sheet n e some = refused _ _ sheet n (number-refused call n e some s (lengths sheet)) some
 
-pub gather-read : (s : Shape) (font : List ℕ) (v : View) (l : Label) (text : List ℕ) (sheet : Sheet) → font_number font ≡ 0 → v ≡ view_of font
+pub gather-read : (s : Shape) (font : List ℕ) (v : View) (l : Label) (text : List ℕ) (sheet : Sheet) → font_number font ≡ 0
+    → v ≡ view_of font
     → join_with (face_from v font) s l text sheet ≡ gather_after s (call_of font l text) sheet
 unfolding gather_after join_with
 gather-read s font v l text sheet good same =

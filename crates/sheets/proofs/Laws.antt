@@ -87,9 +87,11 @@ module _ (s : Shape) (xs ys : List Call) (same : SameForStrips xs ys) where
       ∙ altered-same 0 (panel_words s) (calls_effect s xs) (calls_effect s ys) panel (λ j less. exchanged s xs ys same (0 + j))
       ∙ sym (paint-all s ys panel room words)
 
-  pub exchange-sheet : (a b : Sheet) → Lent s a → Lent s b → SameSheet s (gather_all s xs (fresh_after s a)) (gather_all s ys (fresh_after s b))
+  pub exchange-sheet : (a b : Sheet) → Lent s a → Lent s b
+      → SameSheet s (gather_all s xs (fresh_after s a)) (gather_all s ys (fresh_after s b))
   exchange-sheet a b la lb =
-      holds_same s _ _ (calls_effect s xs) (calls_effect s ys) (gathered s xs a la) (gathered s ys b lb) (λ i less. exchanged s xs ys same i)
+      holds_same s _ _ (calls_effect s xs) (calls_effect s ys) (gathered s xs a la) (gathered s ys b lb)
+      (λ i less. exchanged s xs ys same i)
 
 -- ---- replies: each is the call's own, in painting and in gathering, whatever was called before
 

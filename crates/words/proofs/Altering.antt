@@ -63,7 +63,8 @@ module _ (k : ℕ) (e : ℕ → Effect) (p : List ℕ) where
 pub altered-more : (k n : ℕ) (e : ℕ → Effect) (p : List ℕ)
     → altered k (n + 1) e p ≡ set (altered k n e p) (k + n) (apply_to (e (k + n)) (word (altered k n e p) (k + n)))
 unfolding altered
-altered-more k n e p = rw (add-one n) (ap (λ (d : ℕ). set (altered k n e p) (k + n) (apply_to (e (k + n)) d)) (sym (altered-past k e p n (k + n) (omega arith))))
+altered-more k n e p = rw (add-one n) (ap (λ (d : ℕ). set (altered k n e p) (k + n) (apply_to (e (k + n)) d))
+    (sym (altered-past k e p n (k + n) (omega arith))))
 
 -- a run goes on in another
 pub altered-on : (k n m : ℕ) (e : ℕ → Effect) (p : List ℕ) → altered k (n + m) e p ≡ altered (k + n) m e (altered k n e p)
@@ -82,7 +83,8 @@ unfolding altered
 altered-idle k zero e p h idle = refl
 altered-idle k (suc n) e p h idle =
     ap (λ (q : List ℕ). set q (k + n) (apply_to (e (k + n)) (word p (k + n)))) (altered-idle k n e p h (λ j less. idle j (omega arith)))
-    ∙ ap (set p (k + n)) (ap (λ (f : Effect). apply_to f (word p (k + n))) (idle n (omega arith)) ∙ apply-identity (word p (k + n)) (h (k + n)))
+    ∙ ap (set p (k + n)) (ap (λ (f : Effect). apply_to f (word p (k + n))) (idle n (omega arith))
+    ∙ apply-identity (word p (k + n)) (h (k + n)))
     ∙ set-get_or p (k + n) 0
 
 -- words stay words

@@ -17,7 +17,8 @@ words-length (high ∷ low ∷ bytes) =
     let shorter = words-length bytes in
     omega arith
 
-pub words-at : (bytes : List ℕ) (i : ℕ) → 2 * i + 1 < length bytes → word (words_of bytes) i ≡ word bytes (2 * i) * 256 + word bytes (2 * i + 1)
+pub words-at : (bytes : List ℕ) (i : ℕ) → 2 * i + 1 < length bytes
+    → word (words_of bytes) i ≡ word bytes (2 * i) * 256 + word bytes (2 * i + 1)
 unfolding words_of
 words-at [] i h = absurd (omega arith)
 words-at (high ∷ []) i h = absurd (omega arith)
@@ -46,7 +47,8 @@ words-drop [] (suc n) = rw (even-suc n)
 words-drop (high ∷ []) (suc n) = rw (even-suc n)
 words-drop (high ∷ low ∷ bytes) (suc n) = rw (even-suc n) (words-drop bytes n)
 
-pub words-part : (bytes : List ℕ) (from count : ℕ) → words_of (take (2 * count) (drop (2 * from) bytes)) ≡ take count (drop from (words_of bytes))
+pub words-part : (bytes : List ℕ) (from count : ℕ)
+    → words_of (take (2 * count) (drop (2 * from) bytes)) ≡ take count (drop from (words_of bytes))
 words-part bytes from count = words_take (drop (2 * from) bytes) count ∙ ap (take count) (words-drop bytes from)
 
 pub bytes-length : (ws : List ℕ) → length (bytes_of ws) ≡ 2 * length ws

@@ -77,7 +77,23 @@ pub on-itself : (t r : Bool) → r ≡ t → r ≡ cond t true false
 on-itself true r e = e
 on-itself false r e = e
 
-pub ruleset chain = (on-itself, on-true, on-false, on-lt, on-ge, on-le, on-gt, on-eq, on-ne, on-told, on-denied, on_or, on_and, on-not, refl)
+pub ruleset chain = (
+  on-itself,
+  on-true,
+  on-false,
+  on-lt,
+  on-ge,
+  on-le,
+  on-gt,
+  on-eq,
+  on-ne,
+  on-told,
+  on-denied,
+  on_or,
+  on_and,
+  on-not,
+  refl,
+)
 
 -- the same, where the code compares numbers that calls have handed it
 pub ruleset chain-of-replies = (on-eq-left, on-ne-left, on-eq-right, on-ne-right, on-lt-right, on-ge-right, chain)

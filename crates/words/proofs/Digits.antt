@@ -69,7 +69,8 @@ dig-and a b zero =
     ∙ (last-digit (bit_and (a / 2) (b / 2)) (min (a % 2) (b % 2)) (min-bit (a % 2) (b % 2) (omega arith) (omega arith))).1
 dig-and a b (suc i) =
     ap (λ (n : ℕ). dig (n / 2) i) (and_step a b)
-    ∙ ap (λ (n : ℕ). dig n i) (last-digit (bit_and (a / 2) (b / 2)) (min (a % 2) (b % 2)) (min-bit (a % 2) (b % 2) (omega arith) (omega arith))).0
+    ∙ ap (λ (n : ℕ). dig n i) (last-digit (bit_and (a / 2) (b / 2)) (min (a % 2) (b % 2))
+    (min-bit (a % 2) (b % 2) (omega arith) (omega arith))).0
     ∙ dig-and (a / 2) (b / 2) i
 
 pub dig-xor : (a b i : ℕ) → dig (bit_xor a b) i ≡ differ (dig a i) (dig b i)
@@ -79,7 +80,8 @@ dig-xor a b zero =
     ∙ (last-digit (bit_xor (a / 2) (b / 2)) (differ (a % 2) (b % 2)) (differ-bit (a % 2) (b % 2) (omega arith) (omega arith))).1
 dig-xor a b (suc i) =
     ap (λ (n : ℕ). dig (n / 2) i) (xor_step a b)
-    ∙ ap (λ (n : ℕ). dig n i) (last-digit (bit_xor (a / 2) (b / 2)) (differ (a % 2) (b % 2)) (differ-bit (a % 2) (b % 2) (omega arith) (omega arith))).0
+    ∙ ap (λ (n : ℕ). dig n i) (last-digit (bit_xor (a / 2) (b / 2)) (differ (a % 2) (b % 2))
+    (differ-bit (a % 2) (b % 2) (omega arith) (omega arith))).0
     ∙ dig-xor (a / 2) (b / 2) i
 
 -- ---- the digits are the bits, which are counted from the other end

@@ -80,7 +80,8 @@ commute a b ha hb apart =
     (λ j h. apply-bit b a.flip j ∙ at-bit j h ∙ sym (apply-bit a b.flip j)))
   where
     at-bit : (j : ℕ) → j < 16
-        → differ (min (bit_of a.flip j) (bit_of b.keep j)) (bit_of b.flip j) ≡ differ (min (bit_of b.flip j) (bit_of a.keep j)) (bit_of a.flip j)
+        → differ (min (bit_of a.flip j) (bit_of b.keep j)) (bit_of b.flip j)
+        ≡ differ (min (bit_of b.flip j) (bit_of a.keep j)) (bit_of a.flip j)
     at-bit j h =
         ⊎_elim
         (λ l. flips-commute (bit_of a.keep j) (bit_of a.flip j) (bit_of b.keep j) (bit_of b.flip j) (bit-digit b.flip j) l.0 l.1)

@@ -15,13 +15,15 @@ pub part_none : (xs : List ℕ) (from count : ℕ) → length xs ≤ from → �
 part_none xs from count h = rw (drop_of_length-le xs h) (sym (take-nil count))
 
 -- a part that would go on past the end is all that is left
-pub part-rest : (xs : List ℕ) (from count : ℕ) → length xs - from ≤ count → take (length xs - from) (drop from xs) ≡ take count (drop from xs)
+pub part-rest : (xs : List ℕ) (from count : ℕ) → length xs - from ≤ count
+    → take (length xs - from) (drop from xs) ≡ take count (drop from xs)
 part-rest xs from count h =
     let left : length (drop from xs) ≡ length xs - from = length-drop from xs in
     take_all (length xs - from) (drop from xs) (omega arith) ∙ sym (take_all count (drop from xs) (omega arith))
 
 -- a slice whose front has been written, with the k words behind the front written too
-pub behind-front : (front rest ys : List ℕ) (n k : ℕ) → length front ≡ n → take n (front ++ rest) ++ (ys ++ drop k (drop n (front ++ rest))) ≡ front ++ (ys ++ drop k rest)
+pub behind-front : (front rest ys : List ℕ) (n k : ℕ) → length front ≡ n
+    → take n (front ++ rest) ++ (ys ++ drop k (drop n (front ++ rest))) ≡ front ++ (ys ++ drop k rest)
 behind-front front rest ys n k long =
     ap₂ (λ (a b : List ℕ). a ++ (ys ++ drop k b)) (take_at front rest n long) (drop_at front rest n long)
 

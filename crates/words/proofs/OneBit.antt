@@ -73,7 +73,8 @@ module _ (w j b : ℕ) (word : w < 65536) (here : j < 16) where
       → bit_of (apply_to (record { keep = 0xFFFF - mask_of j; flip = flip }) w) i ≡ cond (eqb i j) (b % 2) (bit_of w i)
   bits-under flip i less e =
       apply-bit (record { keep = 0xFFFF - mask_of j; flip = flip }) w i
-      ∙ ap₂ (λ (k f : ℕ). differ (min (bit_of w i) k) f) (bit_not (mask_of j) i mask_lt less ∙ ap (λ (m : ℕ). 1 - m) (mask-bit j i here less)) e
+      ∙ ap₂ (λ (k f : ℕ). differ (min (bit_of w i) k) f)
+      (bit_not (mask_of j) i mask_lt less ∙ ap (λ (m : ℕ). 1 - m) (mask-bit j i here less)) e
       ∙ either (eqb i j)
     where
       either : (t : Bool) → differ (min (bit_of w i) (1 - cond t 1 0)) (cond t (b % 2) 0) ≡ cond t (b % 2) (bit_of w i)

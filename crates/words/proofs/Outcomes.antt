@@ -92,7 +92,8 @@ place-of-one κs a r o e e' p q = p ∙ sym q
 pub word-at-one : OneReply 1 word_at.Kinds.ps word_at.Kinds.r word_at.Reads.Post
 word-at-one κs a r o e e' p q = p ∙ sym q
 
-pub part-one : (κs : Lfts 1) (a : Dens κs part.Kinds.ps) (r o : (res_t part.Kinds.r κs).Denot) (e e' : AtExit (ended_of 1 part.Kinds.ps part.Kinds.r) κs)
+pub part-one : (κs : Lfts 1) (a : Dens κs part.Kinds.ps) (r o : (res_t part.Kinds.r κs).Denot)
+    (e e' : AtExit (ended_of 1 part.Kinds.ps part.Kinds.r) κs)
     → part.Reads.Post κs a r e → part.Reads.Post κs a o e' → r.now ≡ o.now
 part-one κs a r o e e' p q = p ∙ sym q
 
@@ -102,17 +103,20 @@ word-in-one κs a r o e e' p q = p ∙ sym q
 pub odd-bytes-one : OneReply 1 odd-bytes.Kinds.ps odd-bytes.Kinds.r odd-bytes.Reads.Post
 odd-bytes-one κs a r o e e' p q = p ∙ sym q
 
-pub part-in-one : (κs : Lfts 1) (a : Dens κs part_in.Kinds.ps) (r o : (res_t part_in.Kinds.r κs).Denot) (e e' : AtExit (ended_of 1 part_in.Kinds.ps part_in.Kinds.r) κs)
+pub part-in-one : (κs : Lfts 1) (a : Dens κs part_in.Kinds.ps) (r o : (res_t part_in.Kinds.r κs).Denot)
+    (e e' : AtExit (ended_of 1 part_in.Kinds.ps part_in.Kinds.r) κs)
     → part_in.Reads.Post κs a r e → part_in.Reads.Post κs a o e' → r.now ≡ o.now
 part-in-one κs a r o e e' p q = p ∙ sym q
 
 -- the list that the words are written over too
-pub from-bytes-one : (κs : Lfts 2) (a : Dens κs from_bytes.Kinds.ps) (r o : (res_t from_bytes.Kinds.r κs).Denot) (e e' : AtExit (ended_of 2 from_bytes.Kinds.ps from_bytes.Kinds.r) κs)
+pub from-bytes-one : (κs : Lfts 2) (a : Dens κs from_bytes.Kinds.ps) (r o : (res_t from_bytes.Kinds.r κs).Denot)
+    (e e' : AtExit (ended_of 2 from_bytes.Kinds.ps from_bytes.Kinds.r) κs)
     → from_bytes.Reads.Post κs a r e → from_bytes.Reads.Post κs a o e'
     → (r ≡ o) × (e.1.0.now ≡ e'.1.0.now)
 from-bytes-one κs a r o e e' p q = (p.0 ∙ sym q.0, p.1 ∙ sym q.1)
 
-pub to-bytes-one : (κs : Lfts 2) (a : Dens κs to-bytes.Kinds.ps) (r o : (res_t to-bytes.Kinds.r κs).Denot) (e e' : AtExit (ended_of 2 to-bytes.Kinds.ps to-bytes.Kinds.r) κs)
+pub to-bytes-one : (κs : Lfts 2) (a : Dens κs to-bytes.Kinds.ps) (r o : (res_t to-bytes.Kinds.r κs).Denot)
+    (e e' : AtExit (ended_of 2 to-bytes.Kinds.ps to-bytes.Kinds.r) κs)
     → to-bytes.Reads.Post κs a r e → to-bytes.Reads.Post κs a o e'
     → (r ≡ o) × (e.1.0.now ≡ e'.1.0.now)
 to-bytes-one κs a r o e e' p q = (p.0 ∙ sym q.0, p.1 ∙ sym q.1)

@@ -51,7 +51,8 @@ over-at (suc n) f p i h fits = last-or-before n f p i (eqb i n) refl (omega arit
 pub over-same : (n : ℕ) (f g : ℕ → ℕ) (p : List ℕ) → ((i : ℕ) → i < n → f i ≡ g i) → over n f p ≡ over n g p
 unfolding over
 over-same zero f g p same = refl
-over-same (suc n) f g p same = ap₂ (λ (q : List ℕ) (d : ℕ). set q n d) (over-same n f g p (λ i less. same i (omega arith))) (same n (omega arith))
+over-same (suc n) f g p same = ap₂ (λ (q : List ℕ) (d : ℕ). set q n d) (over-same n f g p (λ i less. same i (omega arith)))
+    (same n (omega arith))
 
 -- words from n on that become what they are
 pub over-stays : (n m : ℕ) (f : ℕ → ℕ) (p : List ℕ) → ((j : ℕ) → j < m → f (n + j) ≡ word p (n + j)) → over (n + m) f p ≡ over n f p

@@ -154,7 +154,8 @@ module _ (test : ℕ → Bool) where
   pub last_found : (n i : ℕ) → 0 < i → last_below n test ≡ last_below i test → test (i - 1) ≡ true → i - 1 ≡ last_below n test
   last_found n i h e p = let up : i - 1 + 1 ≡ i = omega arith in sym (e ∙ ap (λ (k : ℕ). last_below k test) (sym up) ∙ last-here (i - 1) p)
 
-  pub last-goes-down : (n i : ℕ) → 0 < i → last_below n test ≡ last_below i test → test (i - 1) ≡ false → last_below n test ≡ last_below (i - 1) test
+  pub last-goes-down : (n i : ℕ) → 0 < i → last_below n test ≡ last_below i test → test (i - 1) ≡ false
+      → last_below n test ≡ last_below (i - 1) test
   last-goes-down n i h e p = let up : i - 1 + 1 ≡ i = omega arith in e ∙ ap (λ (k : ℕ). last_below k test) (sym up) ∙ last-lower (i - 1) p
 
   pub last-not-found : (n i : ℕ) → i ≤ 0 → last_below n test ≡ last_below i test → 0 ≡ last_below n test

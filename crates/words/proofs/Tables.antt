@@ -22,7 +22,8 @@ pub table_same : (n : ℕ) (f g : ℕ → ℕ) → ((i : ℕ) → i < n → f i 
 unfolding table
 table_same zero f g h = refl
 table_same (suc n) f g h =
-    ap₂ (λ (x : ℕ) (xs : List ℕ). x ∷ xs) (h 0 (omega arith)) (table_same n (λ i. f (suc i)) (λ i. g (suc i)) (λ i less. h (suc i) (omega arith)))
+    ap₂ (λ (x : ℕ) (xs : List ℕ). x ∷ xs) (h 0 (omega arith))
+    (table_same n (λ i. f (suc i)) (λ i. g (suc i)) (λ i less. h (suc i) (omega arith)))
 
 -- a list is the table of its words
 pub table-words : (ws : List ℕ) → table (length ws) (λ i. word ws i) ≡ ws

@@ -21,10 +21,15 @@ told c =
 
 pub returns-then-bad_offset_at : goal.returns-then-bad_offset_at
 unfolding bad_offset drawing_from
-returns-then-bad_offset_at c = sym (some-here _ 256 c.loop-c.c (omega arith) (told (goal.at.returns-then-bad_offset_at c).After-bad_offset_at ∙ c.if-bad_offset_at.true))
+returns-then-bad_offset_at c = sym (some-here _ 256 c.loop-c.c (omega arith)
+    (told (goal.at.returns-then-bad_offset_at c).After-bad_offset_at ∙ c.if-bad_offset_at.true))
 
 pub loop-c-preserved : goal.loop-c-preserved
-loop-c-preserved c = (omega arith, none_more _ c.loop-c.c c.loop-c.invariant.1 (told (goal.at.loop-c-preserved c).After-bad_offset_at ∙ c.if-bad_offset_at.false))
+loop-c-preserved c = (
+  omega arith,
+  none_more _ c.loop-c.c c.loop-c.invariant.1
+      (told (goal.at.loop-c-preserved c).After-bad_offset_at ∙ c.if-bad_offset_at.false),
+)
 
 pub returns : goal.returns
 unfolding bad_offset drawing_from

@@ -21,10 +21,15 @@ told c =
 
 pub returns-then-bad_spacing_at : goal.returns-then-bad_spacing_at
 unfolding bad_spacing drawing_from
-returns-then-bad_spacing_at c = sym (some-here _ 256 c.loop-c.c (omega arith) (told (goal.at.returns-then-bad_spacing_at c).After-bad_spacing_at ∙ c.if-bad_spacing_at.true))
+returns-then-bad_spacing_at c = sym (some-here _ 256 c.loop-c.c (omega arith)
+    (told (goal.at.returns-then-bad_spacing_at c).After-bad_spacing_at ∙ c.if-bad_spacing_at.true))
 
 pub loop-c-preserved : goal.loop-c-preserved
-loop-c-preserved c = (omega arith, none_more _ c.loop-c.c c.loop-c.invariant.1 (told (goal.at.loop-c-preserved c).After-bad_spacing_at ∙ c.if-bad_spacing_at.false))
+loop-c-preserved c = (
+  omega arith,
+  none_more _ c.loop-c.c c.loop-c.invariant.1
+      (told (goal.at.loop-c-preserved c).After-bad_spacing_at ∙ c.if-bad_spacing_at.false),
+)
 
 pub returns : goal.returns
 unfolding bad_spacing drawing_from

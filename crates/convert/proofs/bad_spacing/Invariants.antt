@@ -13,7 +13,8 @@ use Rattle.convert.proofs.bad_spacing.Given as goal
 
 -- the test of a place
 abbrev pub badSpacingAt : List ℕ → Frame → ℕ → Bool
-badSpacingAt cu frame p = ltb 0 p && (ltb 255 (word cu (p + 1)) || (eqb (word cu (p + 1)) 255 && eqb (left_from cu frame p - frame.left) 255))
+badSpacingAt cu frame p = ltb 0 p && (ltb 255 (word cu (p + 1)) ||
+    (eqb (word cu (p + 1)) 255 && eqb (left_from cu frame p - frame.left) 255))
 
 abbrev pub invariant-loop-c : goal.invariant-loop-c
 invariant-loop-c l = (l.c ≤ 256) × (some_below l.c (λ (c : ℕ). badSpacingAt l.cu l.frame (word l.places c)) ≡ false)

@@ -10,7 +10,12 @@ unfolding sum_below
 loop-i-init c = (omega arith, omega arith, refl)
 
 pub loop-i-preserved : goal.loop-i-preserved
-loop-i-preserved c = (omega arith, omega arith, ap₂ (λ (s k : ℕ). s + k) c.loop-i.invariant.2 c.columns_in-sum.ensures.value ∙ sym (sum_more _ c.loop-i.i))
+loop-i-preserved c = (
+  omega arith,
+  omega arith,
+  ap₂ (λ (s k : ℕ). s + k) c.loop-i.invariant.2 c.columns_in-sum.ensures.value
+      ∙ sym (sum_more _ c.loop-i.i),
+)
 
 pub returns : goal.returns
 returns c =

@@ -12,10 +12,15 @@ unfolding some_below
 loop-c-init c = (omega arith, refl)
 
 pub returns-then-place-gt0 : goal.returns-then-place-gt0
-returns-then-place-gt0 c = sym (first-here _ _ c.loop-c.c (omega arith) c.loop-c.invariant.1 (ap (ltb 0) (sym c.place.ensures) ∙ lt-ltb 0 c.place.result (omega arith)))
+returns-then-place-gt0 c = sym (first-here _ _ c.loop-c.c (omega arith) c.loop-c.invariant.1
+    (ap (ltb 0) (sym c.place.ensures) ∙ lt-ltb 0 c.place.result (omega arith)))
 
 pub loop-c-preserved : goal.loop-c-preserved
-loop-c-preserved c = (omega arith, none_more _ c.loop-c.c c.loop-c.invariant.1 (ap (ltb 0) (sym c.place.ensures) ∙ le-ltb 0 c.place.result (omega arith)))
+loop-c-preserved c = (
+  omega arith,
+  none_more _ c.loop-c.c c.loop-c.invariant.1
+      (ap (ltb 0) (sym c.place.ensures) ∙ le-ltb 0 c.place.result (omega arith)),
+)
 
 pub returns : goal.returns
 returns c =

@@ -1,4 +1,5 @@
--- `convert::put_character` meets its contract: the picture is the character's raster from its own box on; where there is no character, a picture
+-- `convert::put_character` meets its contract: the picture is the character's raster from its own box on; where there is no character, a
+-- picture
 -- of no columns changes nothing.
 -- Assumes nothing.
 use Prim.Native.Nat.{ℕ, ◌*◌}
@@ -20,7 +21,8 @@ returns-then-place-eq0 c =
     let none = columns-none c.args.cu.now c.args.place c.if-place-eq0.true in record {
       value = sym none;
       bitmap = sym (ap (λ (k : ℕ). over n (picture_word c.args.cu.now picture k c.args.at c.args.raster bitmap) bitmap) none
-          ∙ over-idle n _ bitmap (λ i less. picture-none c.args.cu.now picture c.args.at c.args.raster bitmap i (c.type_inv.bitmap i).fits));
+          ∙ over-idle n _ bitmap (λ i less. picture-none c.args.cu.now picture c.args.at c.args.raster bitmap i
+          (c.type_inv.bitmap i).fits));
     }
 
 pub put_picture-requires : goal.put_picture-requires

@@ -46,7 +46,8 @@ loop-row-preserved c =
     let row = c.loop-row.row in
     let before = over (row * c.args.raster) put bitmap in
     let here = row * c.args.raster + c.args.at / 16 in
-    let next : (row + 1) * c.args.raster ≡ row * c.args.raster + c.args.raster = add-mul row 1 c.args.raster ∙ ap (λ (n : ℕ). row * c.args.raster + n) (one-mul c.args.raster) in
+    let next : (row + 1) * c.args.raster ≡ row * c.args.raster + c.args.raster =
+    add-mul row 1 c.args.raster ∙ ap (λ (n : ℕ). row * c.args.raster + n) (one-mul c.args.raster) in
     let place : c.loop-row.i ≡ here = c.loop-row.invariant.1 in
     let old : word c.loop-row.bitmap c.loop-row.i ≡ word bitmap here =
     ap₂ word c.loop-row.invariant.3 place ∙ over-past (row * c.args.raster) put bitmap here (omega arith) in

@@ -14,7 +14,8 @@ loop-column-init c =
     let bitmap = c.args.bitmap.now in (
       omega arith,
       refl,
-      sym (over-idle (c.args.raster * c.args.rows) _ bitmap (λ i less. picture-none c.args.cu.now c.args.picture c.args.at c.args.raster bitmap i (c.type_inv.bitmap i).fits)),
+      sym (over-idle (c.args.raster * c.args.rows) _ bitmap
+          (λ i less. picture-none c.args.cu.now c.args.picture c.args.at c.args.raster bitmap i (c.type_inv.bitmap i).fits)),
     )
 
 pub put_column-requires : goal.put_column-requires

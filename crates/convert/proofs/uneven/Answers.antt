@@ -18,10 +18,15 @@ told c =
     sym (c.uneven_at.ensures ∙ ap (unevenAt c.args.cu.now c.args.most) c.place.ensures)
 
 pub returns-then-uneven_at : goal.returns-then-uneven_at
-returns-then-uneven_at c = sym (some-here _ 256 c.loop-c.c (omega arith) (told (goal.at.returns-then-uneven_at c).After-uneven_at ∙ c.if-uneven_at.true))
+returns-then-uneven_at c = sym (some-here _ 256 c.loop-c.c (omega arith)
+    (told (goal.at.returns-then-uneven_at c).After-uneven_at ∙ c.if-uneven_at.true))
 
 pub loop-c-preserved : goal.loop-c-preserved
-loop-c-preserved c = (omega arith, none_more _ c.loop-c.c c.loop-c.invariant.1 (told (goal.at.loop-c-preserved c).After-uneven_at ∙ c.if-uneven_at.false))
+loop-c-preserved c = (
+  omega arith,
+  none_more _ c.loop-c.c c.loop-c.invariant.1
+      (told (goal.at.loop-c-preserved c).After-uneven_at ∙ c.if-uneven_at.false),
+)
 
 pub returns : goal.returns
 returns c =

@@ -14,7 +14,8 @@ use Rattle.convert.proofs.width_entry.Goals as goal
 use Rattle.convert.proofs.width_entry.Goals.{Then-place-gt0}
 
 -- offset and spacing of a character that is there
-small : (c : Then-place-gt0) → (left_from c.args.cu.now c.args.frame c.args.place - c.args.frame.left ≤ 255) × (word c.args.cu.now (c.args.place + 1) ≤ 255)
+small : (c : Then-place-gt0) → (left_from c.args.cu.now c.args.frame c.args.place - c.args.frame.left ≤ 255)
+    × (word c.args.cu.now (c.args.place + 1) ≤ 255)
 small c =
     let wide = ltb 255 (word c.args.cu.now (c.args.place + 1)) in
     let far = ltb 255 (left_from c.args.cu.now c.args.frame c.args.place - c.args.frame.left) in
@@ -28,7 +29,8 @@ pub overflow_mul-result : goal.overflow_mul-result
 overflow_mul-result c = let off = (small (goal.at.overflow_mul-result c).Then-place-gt0).0 in omega arith
 
 pub overflow_add-result : goal.overflow_add-result
-overflow_add-result c = let both = small (goal.at.overflow_add-result c).Then-place-gt0 in let off = both.0 in let width = both.1 in omega arith
+overflow_add-result c = let both = small (goal.at.overflow_add-result c).Then-place-gt0 in let off = both.0 in let width = both.1 in
+    omega arith
 
 pub returns-then-place-gt0 : goal.returns-then-place-gt0
 returns-then-place-gt0 c =

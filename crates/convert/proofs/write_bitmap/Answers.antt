@@ -24,7 +24,8 @@ loop-k-init c =
       omega arith,
       refl,
       refl,
-      sym (over-idle (c.args.layout.raster * c.args.layout.rows) _ bitmap (λ i less. upto-none _ _ c.args.layout.raster bitmap i (c.type_inv.bitmap i).fits)),
+      sym (over-idle (c.args.layout.raster * c.args.layout.rows) _ bitmap
+          (λ i less. upto-none _ _ c.args.layout.raster bitmap i (c.type_inv.bitmap i).fits)),
     )
 
 known : (b : At-loop-k) → Laid (drawing_from b.args.cu.now b.args.frame b.args.places.now) b.args.layout
@@ -33,7 +34,8 @@ known b = laid (drawing_from b.args.cu.now b.args.frame b.args.places.now) _ b.r
 known-after-place : (b : After-place-place) → Laid (drawing_from b.args.cu.now b.args.frame b.args.places.now) b.args.layout
 known-after-place b = laid (drawing_from b.args.cu.now b.args.frame b.args.places.now) _ b.requires.0
 
-place_is : (c : After-place-place) → c.place-place.result ≡ word c.args.places.now (min_code (drawing_from c.args.cu.now c.args.frame c.args.places.now) + c.loop-k.k)
+place_is : (c : After-place-place) → c.place-place.result
+    ≡ word c.args.places.now (min_code (drawing_from c.args.cu.now c.args.frame c.args.places.now) + c.loop-k.k)
 place_is c =
     c.place-place.ensures
     ∙ ap (λ (m : ℕ). word c.args.places.now (m + c.loop-k.k)) (known-after-place c).least
@@ -41,7 +43,9 @@ place_is c =
 counted : (c : After-place-place) → c.loop-k.k < code_count (drawing_from c.args.cu.now c.args.frame c.args.places.now)
 counted c = let less = c.loop-k-test.true in rw (← (known-after-place c).count) less
 
-columns-are : (c : After-place-place) → columns_at c.args.cu.now c.place-place.result ≡ columns_of (drawing_from c.args.cu.now c.args.frame c.args.places.now) (min_code (drawing_from c.args.cu.now c.args.frame c.args.places.now) + c.loop-k.k)
+columns-are : (c : After-place-place) → columns_at c.args.cu.now c.place-place.result
+    ≡ columns_of (drawing_from c.args.cu.now c.args.frame c.args.places.now)
+    (min_code (drawing_from c.args.cu.now c.args.frame c.args.places.now) + c.loop-k.k)
 columns-are c =
     ap (columns_at c.args.cu.now) (place_is c) ∙ own-columns c.args.cu.now c.args.frame c.args.places.now _
 
@@ -52,17 +56,21 @@ inside c =
     let here = c.loop-k.invariant.1 in
     omega (arith, (columns-are c))
 
-dots-are : (c : After-place-place) → (row j : ℕ) → j < columns_at c.args.cu.now c.place-place.result → strike_dot (drawing_from c.args.cu.now c.args.frame c.args.places.now) row (c.loop-k.at + j) ≡ picture_dot c.args.cu.now (raster_at c.args.cu.now c.args.frame c.place-place.result) row j
+dots-are : (c : After-place-place) → (row j : ℕ) → j < columns_at c.args.cu.now c.place-place.result
+    → strike_dot (drawing_from c.args.cu.now c.args.frame c.args.places.now) row (c.loop-k.at + j)
+    ≡ picture_dot c.args.cu.now (raster_at c.args.cu.now c.args.frame c.place-place.result) row j
 dots-are c row j less =
     ap (λ (n : ℕ). strike_dot (drawing_from c.args.cu.now c.args.frame c.args.places.now) row (n + j)) c.loop-k.invariant.1
     ∙ own-picture c.args.cu.now c.args.frame c.args.places.now c.loop-k.k row j (counted c) (rw (columns-are c) at less)
     ∙ ap (λ (p : ℕ). picture_dot c.args.cu.now (raster_at c.args.cu.now c.args.frame p) row j) (sym (place_is c))
 
 pub put_character-at-requires : goal.put_character-at-requires
-put_character-at-requires c = let long = c.loop-k.invariant.2 in (inside (goal.at.put_character-at-requires c).After-place-place, (omega arith, omega arith))
+put_character-at-requires c = let long = c.loop-k.invariant.2 in
+    (inside (goal.at.put_character-at-requires c).After-place-place, (omega arith, omega arith))
 
 pub overflow_add-at : goal.overflow_add-at
-overflow_add-at c = let narrow = inside (goal.at.overflow_add-at c).After-place-place in let columns = c.put_character-at.ensures.value in omega arith
+overflow_add-at c = let narrow = inside (goal.at.overflow_add-at c).After-place-place in let columns = c.put_character-at.ensures.value in
+    omega arith
 
 pub loop-k-preserved : goal.loop-k-preserved
 loop-k-preserved c =
@@ -75,12 +83,15 @@ loop-k-preserved c =
     let put : List ℕ → List ℕ = λ q. over n (picture_word ws picture columns c.loop-k.at c.args.layout.raster q) q in
     let marks = c.put_character-at.ensures.bitmap in (
       omega arith,
-      ap₂ (λ (x y : ℕ). x + y) c.loop-k.invariant.1 (answer ∙ columns-are (goal.at.loop-k-preserved c).After-place-place) ∙ sym (pointer-next (drawing_from c.args.cu.now c.args.frame c.args.places.now) c.loop-k.k),
+      ap₂ (λ (x y : ℕ). x + y) c.loop-k.invariant.1 (answer ∙ columns-are (goal.at.loop-k-preserved c).After-place-place)
+          ∙ sym (pointer-next (drawing_from c.args.cu.now c.args.frame c.args.places.now) c.loop-k.k),
       ap length marks ∙ over-length n _ c.loop-k.bitmap ∙ c.loop-k.invariant.2,
       marks
           ∙ ap put c.loop-k.invariant.3
-          ∙ strike-on (drawing_from c.args.cu.now c.args.frame c.args.places.now) bits c.args.layout.raster c.args.bitmap.now ws picture c.loop-k.at columns (dots-are (goal.at.loop-k-preserved c).After-place-place) n (omega arith)
-          ∙ ap (λ (k : ℕ). over n (word_upto (drawing_from c.args.cu.now c.args.frame c.args.places.now) bits c.args.layout.raster c.args.bitmap.now (c.loop-k.at + k)) c.args.bitmap.now) (sym answer),
+          ∙ strike-on (drawing_from c.args.cu.now c.args.frame c.args.places.now) bits c.args.layout.raster c.args.bitmap.now ws picture
+          c.loop-k.at columns (dots-are (goal.at.loop-k-preserved c).After-place-place) n (omega arith)
+          ∙ ap (λ (k : ℕ). over n (word_upto (drawing_from c.args.cu.now c.args.frame c.args.places.now) bits c.args.layout.raster
+          c.args.bitmap.now (c.loop-k.at + k)) c.args.bitmap.now) (sym answer),
     )
 
 some-of-product : (r h i : ℕ) → i < r * h → 0 < r
@@ -90,15 +101,19 @@ some-of-product (suc r) h i less = omega arith
 known-after-loop : (b : After-loop-k) → Laid (drawing_from b.args.cu.now b.args.frame b.args.places.now) b.args.layout
 known-after-loop b = laid (drawing_from b.args.cu.now b.args.frame b.args.places.now) _ b.requires.0
 
-pictures-end : (c : After-loop-k) → c.loop-k.at ≡ pointer_at (drawing_from c.args.cu.now c.args.frame c.args.places.now) (code_count (drawing_from c.args.cu.now c.args.frame c.args.places.now))
+pictures-end : (c : After-loop-k) → c.loop-k.at
+    ≡ pointer_at (drawing_from c.args.cu.now c.args.frame c.args.places.now)
+    (code_count (drawing_from c.args.cu.now c.args.frame c.args.places.now))
 pictures-end c =
     let past = c.loop-k-test.false in
-    let all : c.loop-k.k ≡ code_count (drawing_from c.args.cu.now c.args.frame c.args.places.now) = omega (arith, (known-after-loop c).count) in
+    let all : c.loop-k.k ≡ code_count (drawing_from c.args.cu.now c.args.frame c.args.places.now) =
+    omega (arith, (known-after-loop c).count) in
     c.loop-k.invariant.1 ∙ ap (pointer_at (drawing_from c.args.cu.now c.args.frame c.args.places.now)) all
 
 block-end : (c : After-loop-k) → c.loop-k.at + c.args.frame.fbbdx ≡ c.args.layout.columns
 unfolding drawing_from
-block-end c = let all = (dummy-inside (drawing_from c.args.cu.now c.args.frame c.args.places.now)).0 in let across = (known-after-loop c).across in omega (arith, (pictures-end c))
+block-end c = let all = (dummy-inside (drawing_from c.args.cu.now c.args.frame c.args.places.now)).0 in
+    let across = (known-after-loop c).across in omega (arith, (pictures-end c))
 
 columns-inside : (c : After-loop-k) → c.args.layout.columns ≤ 16 * c.args.layout.raster
 columns-inside c =
@@ -116,8 +131,10 @@ few-left c =
 
 pub put_picture-requires : goal.put_picture-requires
 put_picture-requires c =
-    let long = c.loop-k.invariant.2 in
-    (omega (arith, block-end (goal.at.put_picture-requires c).After-loop-k, columns-inside (goal.at.put_picture-requires c).After-loop-k), (omega arith, omega arith))
+    let long = c.loop-k.invariant.2 in (
+      omega (arith, block-end (goal.at.put_picture-requires c).After-loop-k, columns-inside (goal.at.put_picture-requires c).After-loop-k),
+      (omega arith, omega arith),
+    )
 
 pub overflow_sub-unused : goal.overflow_sub-unused
 overflow_sub-unused c = columns-inside (goal.at.overflow_sub-unused c).After-loop-k

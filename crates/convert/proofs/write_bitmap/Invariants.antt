@@ -1,4 +1,5 @@
--- `convert::write_bitmap` meets its contract: each character's picture comes behind those before it, then the dummy's block, then nothing, and with
+-- `convert::write_bitmap` meets its contract: each character's picture comes behind those before it, then the dummy's block, then nothing,
+-- and with
 -- them all columns of the strike are written.
 -- Assumes nothing.
 use Prim.Native.Nat.{◌-◌, ◌*◌, ◌≤◌}
@@ -16,7 +17,9 @@ invariant-loop-k l =
     (l.k ≤ l.codes)
     × (l.at ≡ pointer_at (drawing_from l.cu l.frame l.places) l.k)
     × (length l.bitmap ≡ length l.initial.bitmap)
-    × (l.bitmap ≡ over (l.layout.raster * l.layout.rows) (word_upto (drawing_from l.cu l.frame l.places) (drawn-bit l.cu l.frame l.places) l.layout.raster l.initial.bitmap l.at) l.initial.bitmap)
+    × (l.bitmap ≡ over (l.layout.raster * l.layout.rows)
+    (word_upto (drawing_from l.cu l.frame l.places) (drawn-bit l.cu l.frame l.places) l.layout.raster l.initial.bitmap l.at)
+    l.initial.bitmap)
 
 abbrev pub decreases-loop-k : goal.decreases-loop-k
 decreases-loop-k l = l.codes - l.k

@@ -24,7 +24,8 @@ room start =
     omega arith
 
 pub slice_bounds-write_bitmap-end : goal.slice_bounds-write_bitmap-end
-slice_bounds-write_bitmap-end c = let words = c.bitmap_words-bitmap.ensures in let enough = room (goal.at.slice_bounds-write_bitmap-end c).Start in omega arith
+slice_bounds-write_bitmap-end c = let words = c.bitmap_words-bitmap.ensures in
+    let enough = room (goal.at.slice_bounds-write_bitmap-end c).Start in omega arith
 
 pub slice_bounds-write_bitmap-end-2 : goal.slice_bounds-write_bitmap-end-2
 slice_bounds-write_bitmap-end-2 c =
@@ -44,7 +45,8 @@ words c = c.bitmap_words-bitmap.ensures
 front_length : (c : After-write_bitmap) → length c.write_bitmap.new.bitmap ≡ c.bitmap_words-bitmap.result
 front_length c = ap length c.write_bitmap.ensures ∙ table-length _ _ ∙ sym (words c)
 
-rest-length : (c : After-write_bitmap) → length (drop c.bitmap_words-bitmap.result c.args.body.now) ≡ length c.args.body.now - c.bitmap_words-bitmap.result
+rest-length : (c : After-write_bitmap) → length (drop c.bitmap_words-bitmap.result c.args.body.now)
+    ≡ length c.args.body.now - c.bitmap_words-bitmap.result
 rest-length c = length-drop c.bitmap_words-bitmap.result c.args.body.now
 
 -- the bitmap has room
@@ -54,17 +56,25 @@ room-after-write-bitmap start =
     let long = (good-drawing (drawing_from start.args.cu.now start.args.frame start.args.places.now) _ start.requires.1.1.1.1).has_room in
     omega arith
 
-whole_length : (c : After-write_bitmap) → length (c.write_bitmap.new.bitmap ++ (drop c.bitmap_words-bitmap.result c.args.body.now)) ≡ length c.args.body.now
+whole_length : (c : After-write_bitmap) → length (c.write_bitmap.new.bitmap ++ (drop c.bitmap_words-bitmap.result c.args.body.now))
+    ≡ length c.args.body.now
 whole_length c =
     let enough = room-after-write-bitmap c in
     let size = (words c) in
-    joined_length c.write_bitmap.new.bitmap (drop c.bitmap_words-bitmap.result c.args.body.now) c.bitmap_words-bitmap.result (front_length c) _ (rest-length c) ∙ omega arith
+    joined_length c.write_bitmap.new.bitmap (drop c.bitmap_words-bitmap.result c.args.body.now) c.bitmap_words-bitmap.result
+    (front_length c) _ (rest-length c) ∙ omega arith
 
-tables-lent : (c : After-write_bitmap) → take (length (c.write_bitmap.new.bitmap ++ (drop c.bitmap_words-bitmap.result c.args.body.now)) - c.bitmap_words-bitmap.result) (drop c.bitmap_words-bitmap.result (c.write_bitmap.new.bitmap ++ (drop c.bitmap_words-bitmap.result c.args.body.now))) ≡ (drop c.bitmap_words-bitmap.result c.args.body.now)
-tables-lent c = rest-lent c.write_bitmap.new.bitmap (drop c.bitmap_words-bitmap.result c.args.body.now) c.bitmap_words-bitmap.result (length (c.write_bitmap.new.bitmap ++ (drop c.bitmap_words-bitmap.result c.args.body.now)) - c.bitmap_words-bitmap.result) (front_length c) (let all = (whole_length c) in let left = (rest-length c) in omega arith)
+tables-lent : (c : After-write_bitmap) → take (length (c.write_bitmap.new.bitmap ++ (drop c.bitmap_words-bitmap.result c.args.body.now)) -
+    c.bitmap_words-bitmap.result) (drop c.bitmap_words-bitmap.result
+    (c.write_bitmap.new.bitmap ++ (drop c.bitmap_words-bitmap.result c.args.body.now)))
+    ≡ (drop c.bitmap_words-bitmap.result c.args.body.now)
+tables-lent c = rest-lent c.write_bitmap.new.bitmap (drop c.bitmap_words-bitmap.result c.args.body.now) c.bitmap_words-bitmap.result
+    (length (c.write_bitmap.new.bitmap ++ (drop c.bitmap_words-bitmap.result c.args.body.now)) - c.bitmap_words-bitmap.result)
+    (front_length c) (let all = (whole_length c) in let left = (rest-length c) in omega arith)
 
 pub offset_bounds-body-bitmap : goal.offset_bounds-body-bitmap
-offset_bounds-body-bitmap c = let size = words (goal.at.offset_bounds-body-bitmap c).After-write_bitmap in let enough = room (goal.at.offset_bounds-body-bitmap c).Start in omega arith
+offset_bounds-body-bitmap c = let size = words (goal.at.offset_bounds-body-bitmap c).After-write_bitmap in
+    let enough = room (goal.at.offset_bounds-body-bitmap c).Start in omega arith
 
 pub slice_bounds-write_tables-count : goal.slice_bounds-write_tables-count
 slice_bounds-write_tables-count c =
@@ -84,8 +94,17 @@ pub write_tables-requires : goal.write_tables-requires
 write_tables-requires c =
     let size = words (goal.at.write_tables-requires c).After-write_bitmap in
     let enough = room (goal.at.write_tables-requires c).Start in
-    let left = ap length (tables-lent (goal.at.write_tables-requires c).After-write_bitmap) ∙ rest-length (goal.at.write_tables-requires c).After-write_bitmap in
-    (c.requires.0, (c.requires.1.0, (c.requires.1.1.0, ap (drawing_number (drawing_from c.args.cu.now c.args.frame c.args.places.now)) (omega arith) ∙ c.requires.1.1.1.1)))
+    let left = ap length (tables-lent (goal.at.write_tables-requires c).After-write_bitmap)
+    ∙ rest-length (goal.at.write_tables-requires c).After-write_bitmap in (
+      c.requires.0,
+      (
+        c.requires.1.0,
+        (
+          c.requires.1.1.0,
+          ap (drawing_number (drawing_from c.args.cu.now c.args.frame c.args.places.now)) (omega arith) ∙ c.requires.1.1.1.1,
+        ),
+      ),
+    )
 
 pub returns : goal.returns
 returns c =
@@ -93,8 +112,15 @@ returns c =
     let codes = c.args.layout.codes in
     let ys = c.write_tables.new.tables in
     let k = length (c.write_bitmap.new.bitmap ++ (drop c.bitmap_words-bitmap.result c.args.body.now)) - c.bitmap_words-bitmap.result in
-    let tables : List ℕ → List ℕ = λ q. table (codes + 2) (pointer_word d) ++ (table (codes + 1) (width_entry d) ++ drop (codes + 1) (drop (codes + 2) q)) in
-    behind-front c.write_bitmap.new.bitmap (drop c.bitmap_words-bitmap.result c.args.body.now) ys c.bitmap_words-bitmap.result k (front_length (goal.at.returns c).After-write_bitmap)
-    ∙ ap (λ (q : List ℕ). c.write_bitmap.new.bitmap ++ q) (nothing-behind (drop c.bitmap_words-bitmap.result c.args.body.now) ys k (let all = whole_length (goal.at.returns c).After-write_bitmap in let left = rest-length (goal.at.returns c).After-write_bitmap in omega arith))
+    let tables : List ℕ → List ℕ = λ q. table (codes + 2) (pointer_word d) ++
+    (table (codes + 1) (width_entry d) ++ drop (codes + 1) (drop (codes + 2) q)) in
+    behind-front c.write_bitmap.new.bitmap (drop c.bitmap_words-bitmap.result c.args.body.now) ys c.bitmap_words-bitmap.result k
+    (front_length (goal.at.returns c).After-write_bitmap)
+    ∙ ap (λ (q : List ℕ). c.write_bitmap.new.bitmap ++ q)
+    (nothing-behind (drop c.bitmap_words-bitmap.result c.args.body.now) ys k
+    (let all = whole_length (goal.at.returns c).After-write_bitmap in let left = rest-length (goal.at.returns c).After-write_bitmap in
+    omega arith))
     ∙ ap₂ (λ (p q : List ℕ). p ++ q) c.write_bitmap.ensures c.write_tables.ensures
-    ∙ ap (λ (q : List ℕ). table (c.args.layout.raster * c.args.layout.rows) (bitmap_word d) ++ tables q) (tables-lent (goal.at.returns c).After-write_bitmap ∙ ap (λ (m : ℕ). drop m c.args.body.now) (words (goal.at.returns c).After-write_bitmap))
+    ∙ ap (λ (q : List ℕ). table (c.args.layout.raster * c.args.layout.rows) (bitmap_word d) ++ tables q)
+    (tables-lent (goal.at.returns c).After-write_bitmap
+    ∙ ap (λ (m : ℕ). drop m c.args.body.now) (words (goal.at.returns c).After-write_bitmap))

@@ -23,19 +23,26 @@ counted : (b : At-loop-k) → b.loop-k.k ≤ code_count (drawing_from b.args.cu.
 counted b = let le = b.loop-k.invariant.0 in omega (arith, (known b).count)
 
 pointer-small : (b : At-loop-k) → b.loop-k.at ≤ all_columns (drawing_from b.args.cu.now b.args.frame b.args.places.now)
-pointer-small b = let here = b.loop-k.invariant.1 in omega (arith, pointer-inside (drawing_from b.args.cu.now b.args.frame b.args.places.now) b.loop-k.k (counted b))
+pointer-small b = let here = b.loop-k.invariant.1 in
+    omega (arith, pointer-inside (drawing_from b.args.cu.now b.args.frame b.args.places.now) b.loop-k.k (counted b))
 
 columns-small : (b : At-loop-k) → all_columns (drawing_from b.args.cu.now b.args.frame b.args.places.now) ≤ 65535
 columns-small b = let narrow = b.requires.1.0 in omega (arith, (known b).across)
 
 written-here : (b : At-loop-k) → b.loop-k.at ≡ pointer_word (drawing_from b.args.cu.now b.args.frame b.args.places.now) b.loop-k.k
-written-here b = b.loop-k.invariant.1 ∙ sym (pointer-word (drawing_from b.args.cu.now b.args.frame b.args.places.now) b.loop-k.k (counted b))
+written-here b = b.loop-k.invariant.1 ∙ sym (pointer-word (drawing_from b.args.cu.now b.args.frame b.args.places.now) b.loop-k.k
+    (counted b))
 
 pub overflow_cast-pointers : goal.overflow_cast-pointers
-overflow_cast-pointers c = omega (arith, pointer-small (goal.at.overflow_cast-pointers c).At-loop-k, columns-small (goal.at.overflow_cast-pointers c).At-loop-k)
+overflow_cast-pointers c = omega (
+  arith,
+  pointer-small (goal.at.overflow_cast-pointers c).At-loop-k,
+  columns-small (goal.at.overflow_cast-pointers c).At-loop-k,
+)
 
 pub overflow_add-at : goal.overflow_add-at
-overflow_add-at c = let small = c.columns_in-at.ensures.small in omega (arith, pointer-small (goal.at.overflow_add-at c).At-loop-k, columns-small (goal.at.overflow_add-at c).At-loop-k)
+overflow_add-at c = let small = c.columns_in-at.ensures.small in
+    omega (arith, pointer-small (goal.at.overflow_add-at c).At-loop-k, columns-small (goal.at.overflow_add-at c).At-loop-k)
 
 pub loop-k-preserved : goal.loop-k-preserved
 loop-k-preserved c =
@@ -48,11 +55,16 @@ loop-k-preserved c =
       omega arith,
       ap₂ (λ (x y : ℕ). x + y) c.loop-k.invariant.1 columns ∙ sym (pointer-next d k),
       length-set c.loop-k.pointers k c.loop-k.at ∙ c.loop-k.invariant.2,
-      over-step k c.loop-k.at (pointer_word d) c.loop-k.pointers c.args.pointers.now c.loop-k.invariant.3 (written-here (goal.at.loop-k-preserved c).At-loop-k),
+      over-step k c.loop-k.at (pointer_word d) c.loop-k.pointers c.args.pointers.now c.loop-k.invariant.3
+          (written-here (goal.at.loop-k-preserved c).At-loop-k),
     )
 
 pub overflow_cast-pointers-2 : goal.overflow_cast-pointers-2
-overflow_cast-pointers-2 c = omega (arith, pointer-small (goal.at.overflow_cast-pointers-2 c).At-loop-k, columns-small (goal.at.overflow_cast-pointers-2 c).At-loop-k)
+overflow_cast-pointers-2 c = omega (
+  arith,
+  pointer-small (goal.at.overflow_cast-pointers-2 c).At-loop-k,
+  columns-small (goal.at.overflow_cast-pointers-2 c).At-loop-k,
+)
 
 known-after-loop : (b : After-loop-k) → Laid (drawing_from b.args.cu.now b.args.frame b.args.places.now) b.args.layout
 known-after-loop b = laid (drawing_from b.args.cu.now b.args.frame b.args.places.now) _ b.requires.0
@@ -63,14 +75,23 @@ all-counted c = let past = c.loop-k-test.false in let le = c.loop-k.invariant.0 
 right-edge : (c : After-loop-k) → c.loop-k.at + c.args.frame.fbbdx ≡ all_columns (drawing_from c.args.cu.now c.args.frame c.args.places.now)
 unfolding drawing_from
 right-edge c =
-    ap (λ (n : ℕ). n + c.args.frame.fbbdx) (c.loop-k.invariant.1 ∙ ap (pointer_at (drawing_from c.args.cu.now c.args.frame c.args.places.now)) (all-counted c))
+    ap (λ (n : ℕ). n + c.args.frame.fbbdx) (c.loop-k.invariant.1
+    ∙ ap (pointer_at (drawing_from c.args.cu.now c.args.frame c.args.places.now)) (all-counted c))
     ∙ (dummy-inside (drawing_from c.args.cu.now c.args.frame c.args.places.now)).0
 
 pub overflow_add-pointers : goal.overflow_add-pointers
-overflow_add-pointers c = omega (arith, right-edge (goal.at.overflow_add-pointers c).After-loop-k, columns-small (goal.at.overflow_add-pointers c).At-loop-k)
+overflow_add-pointers c = omega (
+  arith,
+  right-edge (goal.at.overflow_add-pointers c).After-loop-k,
+  columns-small (goal.at.overflow_add-pointers c).At-loop-k,
+)
 
 pub overflow_cast-pointers-4 : goal.overflow_cast-pointers-4
-overflow_cast-pointers-4 c = omega (arith, right-edge (goal.at.overflow_cast-pointers-4 c).After-loop-k, columns-small (goal.at.overflow_cast-pointers-4 c).At-loop-k)
+overflow_cast-pointers-4 c = omega (
+  arith,
+  right-edge (goal.at.overflow_cast-pointers-4 c).After-loop-k,
+  columns-small (goal.at.overflow_cast-pointers-4 c).At-loop-k,
+)
 
 pub bounds-pointers-codes-2 : goal.bounds-pointers-codes-2
 bounds-pointers-codes-2 c =
@@ -86,7 +107,8 @@ returns c =
     let lent = c.args.pointers.now in
     let count = (known (goal.at.returns c).At-loop-k).count in
     let all : c.loop-k.k ≡ codes = all-counted (goal.at.returns c).After-loop-k ∙ sym count in
-    let first = over-step codes c.loop-k.at (pointer_word d) c.loop-k.pointers lent (rw all at c.loop-k.invariant.3) (written-here (goal.at.returns c).At-loop-k ∙ ap (pointer_word d) all) in
+    let first = over-step codes c.loop-k.at (pointer_word d) c.loop-k.pointers lent (rw all at c.loop-k.invariant.3)
+    (written-here (goal.at.returns c).At-loop-k ∙ ap (pointer_word d) all) in
     let second =
     over-step (codes + 1) (c.loop-k.at + c.args.frame.fbbdx) (pointer_word d) (set c.loop-k.pointers codes c.loop-k.at) lent first
     (right-edge (goal.at.returns c).After-loop-k ∙ sym (pointer-last d) ∙ ap (λ (n : ℕ). pointer_word d (n + 1)) (sym count)) in

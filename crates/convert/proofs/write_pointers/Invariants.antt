@@ -1,4 +1,5 @@
--- `convert::write_pointers` meets its contract: each turn writes where the next picture begins, and behind the loop stand the dummy's two edges.
+-- `convert::write_pointers` meets its contract: each turn writes where the next picture begins, and behind the loop stand the dummy's two
+-- edges.
 -- Assumes nothing.
 use Prim.Native.Nat.{◌-◌, ◌≤◌}
 use mathlib.Core.Path.{◌≡◌}

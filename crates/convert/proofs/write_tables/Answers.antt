@@ -17,11 +17,13 @@ use Rattle.convert.proofs.Laid.{words-by, fits_by}
 use Rattle.convert.proofs.write_tables.Goals as goal
 use Rattle.convert.proofs.write_tables.Goals.{After-write_pointers, Start}
 
-good : (start : Start) → GoodDrawing (drawing_from start.args.cu.now start.args.frame start.args.places.now) (length start.args.tables.now + start.args.layout.raster * start.args.layout.rows + 13)
+good : (start : Start) → GoodDrawing (drawing_from start.args.cu.now start.args.frame start.args.places.now)
+    (length start.args.tables.now + start.args.layout.raster * start.args.layout.rows + 13)
 good start = good-drawing (drawing_from start.args.cu.now start.args.frame start.args.places.now) _ start.requires.1.1.1
 
 room : (start : Start) → 2 * start.args.layout.codes + 3 ≤ length start.args.tables.now
-room start = let words = words-by (drawing_from start.args.cu.now start.args.frame start.args.places.now) start.args.layout start.requires.0 in let long = (good start).has_room in omega arith
+room start = let words = words-by (drawing_from start.args.cu.now start.args.frame start.args.places.now) start.args.layout
+    start.requires.0 in let long = (good start).has_room in omega arith
 
 pub slice_bounds-write_pointers-end : goal.slice_bounds-write_pointers-end
 slice_bounds-write_pointers-end c = let enough = room (goal.at.slice_bounds-write_pointers-end c).Start in omega arith
@@ -35,22 +37,32 @@ pub write_pointers-requires : goal.write_pointers-requires
 write_pointers-requires c =
     let enough = room (goal.at.write_pointers-requires c).Start in (
       c.requires.0,
-      ((fits_by (drawing_from c.args.cu.now c.args.frame c.args.places.now) c.args.layout c.requires.0 (good (goal.at.write_pointers-requires c).Start).fits).0, length-take-le _ c.args.tables.now (omega arith)),
+      (
+        (fits_by (drawing_from c.args.cu.now c.args.frame c.args.places.now) c.args.layout c.requires.0
+            (good (goal.at.write_pointers-requires c).Start).fits).0,
+        length-take-le _ c.args.tables.now (omega arith),
+      ),
     )
 
 front_length : (c : After-write_pointers) → length c.write_pointers.new.pointers ≡ c.args.layout.codes + 2
 front_length c = ap length c.write_pointers.ensures ∙ table-length _ _
 
-good-after-write-pointers : (start : After-write_pointers) → GoodDrawing (drawing_from start.args.cu.now start.args.frame start.args.places.now) (length start.args.tables.now + start.args.layout.raster * start.args.layout.rows + 13)
-good-after-write-pointers start = good-drawing (drawing_from start.args.cu.now start.args.frame start.args.places.now) _ start.requires.1.1.1
+good-after-write-pointers : (start : After-write_pointers)
+    → GoodDrawing (drawing_from start.args.cu.now start.args.frame start.args.places.now)
+    (length start.args.tables.now + start.args.layout.raster * start.args.layout.rows + 13)
+good-after-write-pointers start = good-drawing (drawing_from start.args.cu.now start.args.frame start.args.places.now) _
+    start.requires.1.1.1
 
 room-after-write-pointers : (start : After-write_pointers) → 2 * start.args.layout.codes + 3 ≤ length start.args.tables.now
-room-after-write-pointers start = let words = words-by (drawing_from start.args.cu.now start.args.frame start.args.places.now) start.args.layout start.requires.0 in let long = (good-after-write-pointers start).has_room in omega arith
+room-after-write-pointers start = let words = words-by (drawing_from start.args.cu.now start.args.frame start.args.places.now)
+    start.args.layout start.requires.0 in let long = (good-after-write-pointers start).has_room in omega arith
 
-whole_length : (c : After-write_pointers) → length (c.write_pointers.new.pointers ++ drop (c.args.layout.codes + 2) c.args.tables.now) ≡ length c.args.tables.now
+whole_length : (c : After-write_pointers) → length (c.write_pointers.new.pointers ++ drop (c.args.layout.codes + 2) c.args.tables.now)
+    ≡ length c.args.tables.now
 whole_length c =
     let enough = room-after-write-pointers c in
-    joined_length c.write_pointers.new.pointers _ _ (front_length c) _ (length-drop (c.args.layout.codes + 2) c.args.tables.now) ∙ omega arith
+    joined_length c.write_pointers.new.pointers _ _ (front_length c) _ (length-drop (c.args.layout.codes + 2) c.args.tables.now)
+    ∙ omega arith
 
 pub slice_bounds-write_widths-end : goal.slice_bounds-write_widths-end
 slice_bounds-write_widths-end c =
@@ -70,7 +82,10 @@ write_widths-requires c =
         c.requires.1.0,
         (
           (good (goal.at.write_widths-requires c).Start).spacings,
-          ((good (goal.at.write_widths-requires c).Start).offsets, (c.requires.1.1.0, length-take-le _ (drop (n + 2) whole) (omega arith) ∙ add-sub_cancel_left (n + 2) (n + 1))),
+          (
+            (good (goal.at.write_widths-requires c).Start).offsets,
+            (c.requires.1.1.0, length-take-le _ (drop (n + 2) whole) (omega arith) ∙ add-sub_cancel_left (n + 2) (n + 1)),
+          ),
         ),
       ),
     )
@@ -80,6 +95,8 @@ returns c =
     let n = c.args.layout.codes in
     let d = (drawing_from c.args.cu.now c.args.frame c.args.places.now) in
     let lent = c.args.tables.now in
-    behind-front c.write_pointers.new.pointers (drop (n + 2) lent) c.write_widths.new.widths (n + 2) (n + 2 + (n + 1) - (n + 2)) (front_length (goal.at.returns c).After-write_pointers)
-    ∙ ap₂ (λ (k : ℕ) (ys : List ℕ). c.write_pointers.new.pointers ++ (ys ++ drop k (drop (n + 2) lent))) (add-sub_cancel_left (n + 2) (n + 1)) c.write_widths.ensures
+    behind-front c.write_pointers.new.pointers (drop (n + 2) lent) c.write_widths.new.widths (n + 2) (n + 2 + (n + 1) - (n + 2))
+    (front_length (goal.at.returns c).After-write_pointers)
+    ∙ ap₂ (λ (k : ℕ) (ys : List ℕ). c.write_pointers.new.pointers ++ (ys ++ drop k (drop (n + 2) lent)))
+    (add-sub_cancel_left (n + 2) (n + 1)) c.write_widths.ensures
     ∙ ap (λ (xs : List ℕ). xs ++ (table (n + 1) (width_entry d) ++ drop (n + 1) (drop (n + 2) lent))) c.write_pointers.ensures

@@ -21,7 +21,8 @@ known b = laid (drawing_from b.args.cu.now b.args.frame b.args.places.now) _ b.r
 
 pub width_entry-requires : goal.width_entry-requires
 width_entry-requires c =
-    let bad : ℕ → Bool = λ p. ltb 0 p && (ltb 255 (word c.args.cu.now (p + 1)) || ltb 255 (left_from c.args.cu.now c.args.frame p - c.args.frame.left)) in
+    let bad : ℕ → Bool = λ p. ltb 0 p && (ltb 255 (word c.args.cu.now (p + 1)) || ltb 255
+    (left_from c.args.cu.now c.args.frame p - c.args.frame.left)) in
     ap bad c.place.ensures
     ∙ entry-fits c.args.cu.now c.args.frame c.args.places.now c.requires.1.1.1.1.0 c.requires.1.1.0 c.requires.1.1.1.0 _
 
@@ -29,13 +30,16 @@ pub loop-k-preserved : goal.loop-k-preserved
 unfolding width_at
 loop-k-preserved c =
     let k = c.loop-k.k in
-    let less : k < code_count (drawing_from c.args.cu.now c.args.frame c.args.places.now) = let taken = c.loop-k-test.true in omega (arith, (known (goal.at.loop-k-preserved c).At-loop-k).count) in
+    let less : k < code_count (drawing_from c.args.cu.now c.args.frame c.args.places.now) = let taken = c.loop-k-test.true in
+    omega (arith, (known (goal.at.loop-k-preserved c).At-loop-k).count) in
     let place = c.place.ensures ∙ ap (λ (m : ℕ). word c.args.places.now (m + k)) (known (goal.at.loop-k-preserved c).At-loop-k).least in
     let entry =
-    c.width_entry.ensures ∙ ap (width_at c.args.cu.now c.args.frame c.args.places.now) place ∙ sym (width-own c.args.cu.now c.args.frame c.args.places.now k less) in (
+    c.width_entry.ensures ∙ ap (width_at c.args.cu.now c.args.frame c.args.places.now) place
+    ∙ sym (width-own c.args.cu.now c.args.frame c.args.places.now k less) in (
       omega arith,
       length-set c.loop-k.widths k c.width_entry.result ∙ c.loop-k.invariant.1,
-      over-step k c.width_entry.result (width_entry (drawing_from c.args.cu.now c.args.frame c.args.places.now)) c.loop-k.widths c.args.widths.now c.loop-k.invariant.2 entry,
+      over-step k c.width_entry.result (width_entry (drawing_from c.args.cu.now c.args.frame c.args.places.now)) c.loop-k.widths
+          c.args.widths.now c.loop-k.invariant.2 entry,
     )
 
 pub returns : goal.returns

@@ -10,7 +10,8 @@ use Rattle.convert.proofs.write_widths.Given as goal
 
 abbrev pub invariant-loop-k : goal.invariant-loop-k
 invariant-loop-k l =
-    (l.k ≤ l.codes) × (length l.widths ≡ length l.initial.widths) × (l.widths ≡ over l.k (width_entry (drawing_from l.cu l.frame l.places)) l.initial.widths)
+    (l.k ≤ l.codes) × (length l.widths ≡ length l.initial.widths)
+    × (l.widths ≡ over l.k (width_entry (drawing_from l.cu l.frame l.places)) l.initial.widths)
 
 abbrev pub decreases-loop-k : goal.decreases-loop-k
 decreases-loop-k l = l.codes - l.k

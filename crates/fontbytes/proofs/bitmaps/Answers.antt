@@ -18,7 +18,8 @@ loop-k-preserved c =
       omega arith,
       omega arith,
       next_start c.first_at-at.result (words_of c.args.font.now) k c.loop-k.at _ c.loop-k.invariant.2 c.word_in.ensures,
-      over-step k _ (λ (k : ℕ). start_from c.first_at-at.result (words_of c.args.font.now) k + 5) c.loop-k.table _ c.loop-k.invariant.3 (ap (λ (n : ℕ). n + 5) c.loop-k.invariant.2),
+      over-step k _ (λ (k : ℕ). start_from c.first_at-at.result (words_of c.args.font.now) k + 5) c.loop-k.table _ c.loop-k.invariant.3
+          (ap (λ (n : ℕ). n + 5) c.loop-k.invariant.2),
     )
 
 pub returns : goal.returns

@@ -24,7 +24,9 @@ name-is c =
     ∙ ap (λ (map : List ℕ). word map c.args.k)
     (ap words_of c.map.ensures ∙ map-spelt c.args.v.header c.args.font.now))
 
-table_is : (c : After-advance) → (words_of c.pointers-pointers.result.now) ≡ pointers_of ((strike_by c.args.v c.args.bitmaps.now (words_of c.args.font.now)) (name_of (word (map_of c.args.v.header (words_of c.args.font.now)) c.args.k)).body) (words_of c.args.font.now)
+table_is : (c : After-advance) → (words_of c.pointers-pointers.result.now)
+    ≡ pointers_of ((strike_by c.args.v c.args.bitmaps.now (words_of c.args.font.now))
+    (name_of (word (map_of c.args.v.header (words_of c.args.font.now)) c.args.k)).body) (words_of c.args.font.now)
 table_is c =
     ap words_of c.pointers-pointers.ensures
     ∙ pointers-spelt _ c.args.font.now
@@ -51,7 +53,13 @@ returns c =
     ∙ ap (advance_of c.args.v.header) c.entry_for_step.ensures
     ∙ advance-asks c.args.v.header (entry_at t t c.of-name.result.code)
     ∙ plain-advance c.args.v.header (entry_at t t c.of-name.result.code)
-    (entry_with (pointers_of ((strike_by c.args.v c.args.bitmaps.now (words_of c.args.font.now)) (name_of (word (map_of c.args.v.header (words_of c.args.font.now)) c.args.k)).body) (words_of c.args.font.now)) (name_of (word (map_of c.args.v.header (words_of c.args.font.now)) c.args.k)).code (word (widths_of c.args.v.header (words_of c.args.font.now)) c.args.k)) kind
-    (ap₂ (λ (p : List ℕ) (n : Name). word p n.code) (table_is (goal.at.returns c).After-advance) (name-is (goal.at.returns c).After-advance))
-    (ap₂ (λ (p : List ℕ) (n : Name). word p (n.code + 1)) (table_is (goal.at.returns c).After-advance) (name-is (goal.at.returns c).After-advance))
-    ∙ ap (advance_of c.args.v.header) (sym (entry-mapped c.args.v.header (strike_by c.args.v c.args.bitmaps.now (words_of c.args.font.now)) (words_of c.args.font.now) c.requires c.args.k))
+    (entry_with (pointers_of ((strike_by c.args.v c.args.bitmaps.now (words_of c.args.font.now))
+    (name_of (word (map_of c.args.v.header (words_of c.args.font.now)) c.args.k)).body) (words_of c.args.font.now))
+    (name_of (word (map_of c.args.v.header (words_of c.args.font.now)) c.args.k)).code
+    (word (widths_of c.args.v.header (words_of c.args.font.now)) c.args.k)) kind
+    (ap₂ (λ (p : List ℕ) (n : Name). word p n.code) (table_is (goal.at.returns c).After-advance)
+    (name-is (goal.at.returns c).After-advance))
+    (ap₂ (λ (p : List ℕ) (n : Name). word p (n.code + 1)) (table_is (goal.at.returns c).After-advance)
+    (name-is (goal.at.returns c).After-advance))
+    ∙ ap (advance_of c.args.v.header) (sym (entry-mapped c.args.v.header (strike_by c.args.v c.args.bitmaps.now (words_of c.args.font.now))
+    (words_of c.args.font.now) c.requires c.args.k))

@@ -28,13 +28,16 @@ name-is m =
     (ap words_of m.map.ensures ∙ map-spelt m.args.h m.args.font.now)
     m.place-k.ensures)
 
-width_is : (m : After-marked) → m.word_in-then-in_range.result ≡ word (widths_of m.args.h (words_of m.args.font.now)) (m.args.code - m.args.h.min)
+width_is : (m : After-marked) → m.word_in-then-in_range.result
+    ≡ word (widths_of m.args.h (words_of m.args.font.now)) (m.args.code - m.args.h.min)
 width_is m =
     m.word_in-then-in_range.ensures
     ∙ ap₂ (λ (widths : List ℕ) (i : ℕ). word widths i) (ap words_of m.widths.ensures ∙ widths-spelt m.args.h m.args.font.now)
     m.place-k.ensures
 
-marked-is : (m : After-marked) → m.marked.result ≡ marked m.args.h (name_of (word (map_of m.args.h (words_of m.args.font.now)) (m.args.code - m.args.h.min))).missing (word (widths_of m.args.h (words_of m.args.font.now)) (m.args.code - m.args.h.min))
+marked-is : (m : After-marked) → m.marked.result
+    ≡ marked m.args.h (name_of (word (map_of m.args.h (words_of m.args.font.now)) (m.args.code - m.args.h.min))).missing
+    (word (widths_of m.args.h (words_of m.args.font.now)) (m.args.code - m.args.h.min))
 marked-is m = m.marked.ensures ∙ ap₂ (λ (name : Name) (w : ℕ). marked m.args.h name.missing w) (name-is m) (width_is m)
 
 pub overflow_cast-dummy : goal.overflow_cast-dummy
@@ -51,7 +54,10 @@ overflow_cast-result c = omega (arith, c.place-k.ensures)
 
 pub returns-then-in_range : goal.returns-then-in_range
 unfolding mapped_place
-returns-then-in_range c = rw (in-it (goal.at.returns-then-in_range c).After-marked, sym (marked-is (goal.at.returns-then-in_range c).After-marked) ∙ c.if-marked.false) c.place-k.ensures
+returns-then-in_range c = rw (
+  in-it (goal.at.returns-then-in_range c).After-marked,
+  sym (marked-is (goal.at.returns-then-in_range c).After-marked) ∙ c.if-marked.false,
+) c.place-k.ensures
 
 pub returns : goal.returns
 unfolding mapped_place

@@ -9,7 +9,8 @@ use Rattle.fontbytes.proofs.pairs.Given as goal
 abbrev pub invariant-loop-k : goal.invariant-loop-k
 invariant-loop-k l =
     (l.k ≤ l.count) × (l.at ≤ 65548 + 65535 * l.k) × (l.at ≡ start_from l.initial.at (words_of l.font) l.k)
-    × (l.table ≡ over l.k (λ (k : ℕ). pointer_count (body_of (words_of l.font) (start_from l.initial.at (words_of l.font) k))) l.initial.table)
+    × (l.table ≡ over l.k (λ (k : ℕ). pointer_count (body_of (words_of l.font) (start_from l.initial.at (words_of l.font) k)))
+    l.initial.table)
 
 abbrev pub decreases-loop-k : goal.decreases-loop-k
 decreases-loop-k l = l.count - l.k

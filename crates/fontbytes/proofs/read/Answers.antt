@@ -23,9 +23,12 @@ even-read bytes even = rw even
 pub returns-then-odd_bytes : goal.returns-then-odd_bytes
 returns-then-odd_bytes c =
     let bytes = c.args.font.now in
-    let odd = sym c.odd_bytes.ensures ∙ c.if-odd_bytes.true in let both = tells (file_number bytes) (view_of (words_of bytes)) _ (odd_refused bytes odd) in record { value = both.0; number = both.1 }
+    let odd = sym c.odd_bytes.ensures ∙ c.if-odd_bytes.true in
+    let both = tells (file_number bytes) (view_of (words_of bytes)) _ (odd_refused bytes odd) in record { value = both.0; number = both.1 }
 
 pub returns : goal.returns
 returns c =
     let bytes = c.args.font.now in
-    let even = sym c.odd_bytes.ensures ∙ c.if-odd_bytes.false in let both = tells (file_number bytes) (view_of (words_of bytes)) _ (c.read_words.ensures ∙ even-read bytes even) in record { value = both.0; number = both.1 }
+    let even = sym c.odd_bytes.ensures ∙ c.if-odd_bytes.false in
+    let both = tells (file_number bytes) (view_of (words_of bytes)) _ (c.read_words.ensures ∙ even-read bytes even) in
+    record { value = both.0; number = both.1 }

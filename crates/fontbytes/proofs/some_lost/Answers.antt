@@ -24,11 +24,14 @@ name-is seen =
     ∙ ap (λ (map : List ℕ). word map seen.loop-k.k) (ap words_of seen.map-map.ensures ∙ map-spelt seen.args.h seen.args.font.now))
     ∙ sym (name-mapped seen.args.h (λ n. no_strike) (words_of seen.args.font.now) seen.requires seen.loop-k.k)
 
-width_is : (seen : After-lost) → word (words_of seen.widths-widths.result.now) seen.loop-k.k ≡ word (widths_of seen.args.h (words_of seen.args.font.now)) seen.loop-k.k
+width_is : (seen : After-lost) → word (words_of seen.widths-widths.result.now) seen.loop-k.k
+    ≡ word (widths_of seen.args.h (words_of seen.args.font.now)) seen.loop-k.k
 width_is seen =
-    ap (λ (widths : List ℕ). word widths seen.loop-k.k) (ap words_of seen.widths-widths.ensures ∙ widths-spelt seen.args.h seen.args.font.now)
+    ap (λ (widths : List ℕ). word widths seen.loop-k.k)
+    (ap words_of seen.widths-widths.ensures ∙ widths-spelt seen.args.h seen.args.font.now)
 
-pairs-are : (seen : After-lost) → word seen.pairs-pairs.result seen.of-name.result.body ≡ pairs_in seen.args.h (words_of seen.args.font.now) (name_in seen.args.h (words_of seen.args.font.now) seen.loop-k.k).body
+pairs-are : (seen : After-lost) → word seen.pairs-pairs.result seen.of-name.result.body
+    ≡ pairs_in seen.args.h (words_of seen.args.font.now) (name_in seen.args.h (words_of seen.args.font.now) seen.loop-k.k).body
 pairs-are seen =
     ap (λ (table : List ℕ). word table seen.of-name.result.body) seen.pairs-pairs.ensures
     ∙ pairs-at seen.args.h (words_of seen.args.font.now) seen.of-name.result.body (omega (arith, seen.of-name.ensures.small.0))
@@ -52,7 +55,11 @@ returns-then-lost c =
     (lost-is (goal.at.returns-then-lost c).After-lost ∙ c.if-lost.true))
 
 pub loop-k-preserved : goal.loop-k-preserved
-loop-k-preserved c = (omega arith, none_more _ c.loop-k.k c.loop-k.invariant.1 (lost-is (goal.at.loop-k-preserved c).After-lost ∙ c.if-lost.false))
+loop-k-preserved c = (
+  omega arith,
+  none_more _ c.loop-k.k c.loop-k.invariant.1
+      (lost-is (goal.at.loop-k-preserved c).After-lost ∙ c.if-lost.false),
+)
 
 pub returns : goal.returns
 returns c =

@@ -13,7 +13,8 @@ use Rattle.fonts.proofs.body_number.Goals as goal
 use Rattle.fonts.proofs.body_number.Goals.{After-bad_pointers, After-head_number-refusal}
 
 -- the moment: the head has been tested
-head-is : (c : After-head_number-refusal) → c.head_number-refusal.result ≡ head_number c.args.h (body_of c.args.font.now c.args.at) c.args.at c.args.last (length c.args.font.now)
+head-is : (c : After-head_number-refusal) → c.head_number-refusal.result
+    ≡ head_number c.args.h (body_of c.args.font.now c.args.at) c.args.at c.args.last (length c.args.font.now)
 head-is c =
     let a = c.args in
     c.head_number-refusal.ensures
@@ -27,13 +28,15 @@ table_is c =
     c.pointers-table.ensures
     ∙ ap (λ (b : Body). pointers_of (record { bitmap = c.args.at + 5; body = b }) c.args.font.now) (body_is c)
 
-bad-is : (c : After-bad_pointers) → c.bad_pointers.result ≡ bad_pointers (body_of c.args.font.now c.args.at) (pointers_of (strike_at c.args.font.now c.args.at) c.args.font.now)
+bad-is : (c : After-bad_pointers) → c.bad_pointers.result
+    ≡ bad_pointers (body_of c.args.font.now c.args.at) (pointers_of (strike_at c.args.font.now c.args.at) c.args.font.now)
 unfolding bad_pointers
 bad-is c = cc
 
 pub returns-then-refusal-ne0 : goal.returns-then-refusal-ne0
 unfolding body_number
-returns-then-refusal-ne0 c = stage-stops _ _ _ (head-is (goal.at.returns-then-refusal-ne0 c).After-head_number-refusal) c.if-refusal-ne0.true
+returns-then-refusal-ne0 c = stage-stops _ _ _ (head-is (goal.at.returns-then-refusal-ne0 c).After-head_number-refusal)
+    c.if-refusal-ne0.true
 
 pub returns-then-bad_pointers : goal.returns-then-bad_pointers
 unfolding body_number first_of

@@ -22,8 +22,14 @@ loop-k-init c = (omega arith, omega arith, c.first_at-at.ensures.value, none-ref
 pub returns-then-number-ne0 : goal.returns-then-number-ne0
 returns-then-number-ne0 c =
     let k = c.loop-k.k in
-    let here = one_more c.args.h c.args.font.now k _ c.loop-k.invariant.3 (number_is (goal.at.returns-then-number-ne0 c).After-body_number-number) in
-    let all : c.args.h.bodies ≡ (k + 1) + (c.args.h.bodies - (k + 1)) = omega (arith, c.loop-k-test.true) in record { number_value = stays c.args.h c.args.font.now (k + 1) (c.args.h.bodies - (k + 1)) _ here c.if-number-ne0.true ∙ ap (bodies_number c.args.h c.args.font.now) (sym all); fewest = λ none. absurd (c.if-number-ne0.true none) }
+    let here = one_more c.args.h c.args.font.now k _ c.loop-k.invariant.3
+    (number_is (goal.at.returns-then-number-ne0 c).After-body_number-number) in
+    let all : c.args.h.bodies ≡ (k + 1) + (c.args.h.bodies - (k + 1)) = omega (arith, c.loop-k-test.true) in
+    record {
+      number_value = stays c.args.h c.args.font.now (k + 1) (c.args.h.bodies - (k + 1)) _ here c.if-number-ne0.true
+          ∙ ap (bodies_number c.args.h c.args.font.now) (sym all);
+      fewest = λ none. absurd (c.if-number-ne0.true none);
+    }
 
 pub loop-k-preserved : goal.loop-k-preserved
 unfolding body_of
@@ -33,7 +39,8 @@ loop-k-preserved c =
       omega arith,
       omega arith,
       next_start (first_at c.args.h) c.args.font.now k c.loop-k.at _ c.loop-k.invariant.2 (ap (λ (body : Body). body.words) head),
-      one_more c.args.h c.args.font.now k 0 c.loop-k.invariant.3 (sym c.if-number-ne0.false ∙ number_is (goal.at.loop-k-preserved c).After-body_number-number),
+      one_more c.args.h c.args.font.now k 0 c.loop-k.invariant.3
+          (sym c.if-number-ne0.false ∙ number_is (goal.at.loop-k-preserved c).After-body_number-number),
       each_more c.args.h c.args.font.now k c.loop-k.fewest _ c.loop-k.at _ c.loop-k.invariant.4 c.loop-k.invariant.2
           (c.pointers.ensures ∙ ap (λ (body : Body). pointer_count body) head) c.lesser-fewest.ensures,
     )

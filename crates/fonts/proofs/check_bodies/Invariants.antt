@@ -9,7 +9,8 @@ use Rattle.fonts.proofs.check_bodies.Given as goal
 
 abbrev pub invariant-loop-k : goal.invariant-loop-k
 invariant-loop-k l =
-    (l.k ≤ l.count) × (l.at ≤ 65548 + 65535 * l.k) × (l.at ≡ body_start l.h l.font l.k) × (0 ≡ bodies_number l.h l.font l.k) × EachHas l.h l.font l.k l.fewest
+    (l.k ≤ l.count) × (l.at ≤ 65548 + 65535 * l.k) × (l.at ≡ body_start l.h l.font l.k) × (0 ≡ bodies_number l.h l.font l.k)
+    × EachHas l.h l.font l.k l.fewest
 
 abbrev pub decreases-loop-k : goal.decreases-loop-k
 decreases-loop-k l = l.count - l.k

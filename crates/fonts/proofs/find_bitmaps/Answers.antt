@@ -10,7 +10,8 @@ use Rattle.fonts.proofs.find_bitmaps.Goals as goal
 use Rattle.fonts.proofs.find_bitmaps.Goals.{At-loop-k}
 
 room : (b : At-loop-k) → length b.loop-k.table ≡ length b.args.table.now
-room b = ap length b.loop-k.invariant.3 ∙ over-length b.loop-k.k ((λ (k : ℕ). start_from b.first_at-at.result b.args.font.now k + 5)) b.args.table.now
+room b = ap length b.loop-k.invariant.3 ∙ over-length b.loop-k.k ((λ (k : ℕ). start_from b.first_at-at.result b.args.font.now k + 5))
+    b.args.table.now
 
 pub loop-k-init : goal.loop-k-init
 unfolding start_from over
@@ -25,7 +26,8 @@ loop-k-preserved c =
       omega arith,
       omega arith,
       next_start c.first_at-at.result c.args.font.now k c.loop-k.at _ c.loop-k.invariant.2 c.word_at.ensures,
-      over-step k _ (λ (k : ℕ). start_from c.first_at-at.result c.args.font.now k + 5) c.loop-k.table _ c.loop-k.invariant.3 (ap (λ (n : ℕ). n + 5) c.loop-k.invariant.2),
+      over-step k _ (λ (k : ℕ). start_from c.first_at-at.result c.args.font.now k + 5) c.loop-k.table _ c.loop-k.invariant.3
+          (ap (λ (n : ℕ). n + 5) c.loop-k.invariant.2),
     )
 
 pub returns : goal.returns
@@ -34,4 +36,5 @@ returns c =
     let size = c.least-count.ensures in
     let e : c.loop-k.k ≡ min (length lent) c.args.h.bodies = omega (arith, size) in
     rw e at c.loop-k.invariant.3
-    ∙ ap (λ (n : ℕ). over (min (length lent) c.args.h.bodies) (λ (k : ℕ). start_from n c.args.font.now k + 5) lent) c.first_at-at.ensures.value
+    ∙ ap (λ (n : ℕ). over (min (length lent) c.args.h.bodies) (λ (k : ℕ). start_from n c.args.font.now k + 5) lent)
+    c.first_at-at.ensures.value

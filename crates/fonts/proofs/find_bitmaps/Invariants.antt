@@ -8,7 +8,8 @@ use Rattle.fonts.proofs.find_bitmaps.Given as goal
 
 abbrev pub invariant-loop-k : goal.invariant-loop-k
 invariant-loop-k l =
-    (l.k ≤ l.count) × (l.at ≤ 65548 + 65535 * l.k) × (l.at ≡ start_from l.initial.at l.font l.k) × (l.table ≡ over l.k (λ (k : ℕ). start_from l.initial.at l.font k + 5) l.initial.table)
+    (l.k ≤ l.count) × (l.at ≤ 65548 + 65535 * l.k) × (l.at ≡ start_from l.initial.at l.font l.k)
+    × (l.table ≡ over l.k (λ (k : ℕ). start_from l.initial.at l.font k + 5) l.initial.table)
 
 abbrev pub decreases-loop-k : goal.decreases-loop-k
 decreases-loop-k l = l.count - l.k

@@ -19,7 +19,8 @@ loop-k-preserved c =
       omega arith,
       omega arith,
       next_start c.first_at-at.result c.args.font.now k c.loop-k.at _ c.loop-k.invariant.2 c.word_at.ensures,
-      over-step k _ (λ (k : ℕ). pointer_count (body_of c.args.font.now (start_from c.first_at-at.result c.args.font.now k))) c.loop-k.table _ c.loop-k.invariant.3
+      over-step k _ (λ (k : ℕ). pointer_count (body_of c.args.font.now (start_from c.first_at-at.result c.args.font.now k))) c.loop-k.table
+          _ c.loop-k.invariant.3
           (c.pointers.ensures ∙ ap pointer_count (c.of.ensures ∙ ap (body_of c.args.font.now) c.loop-k.invariant.2)),
     )
 
@@ -29,5 +30,6 @@ returns c =
     let size = c.least-count.ensures in
     let e : c.loop-k.k ≡ min 128 c.args.h.bodies = omega (arith, size) in
     rw e at c.loop-k.invariant.3
-    ∙ ap (λ (n : ℕ). over (min 128 c.args.h.bodies) (λ (k : ℕ). pointer_count (body_of c.args.font.now (start_from n c.args.font.now k))) (table 128 (λ k. 0)))
+    ∙ ap (λ (n : ℕ). over (min 128 c.args.h.bodies) (λ (k : ℕ). pointer_count (body_of c.args.font.now (start_from n c.args.font.now k)))
+    (table 128 (λ k. 0)))
     c.first_at-at.ensures.value

@@ -19,7 +19,8 @@ unfolding reading_for
 returns-then-refusal-ne0 c =
     let number = number_is (goal.at.returns-then-refusal-ne0 c).After-number_by-refusal in
     let refused = ap Refused number in
-    let told = tells (font_number c.args.font.now) (view_of c.args.font.now) (Refused c.number_by-refusal.result) (search chain-of-replies) in
+    let told = tells (font_number c.args.font.now) (view_of c.args.font.now) (Refused c.number_by-refusal.result) (search chain-of-replies)
+    in
     record { value = told.0; number = told.1 }
 
 pub returns : goal.returns

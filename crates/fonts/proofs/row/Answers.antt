@@ -79,4 +79,5 @@ returns c =
     let below = rw (height-is (goal.at.returns c).After-height) at c.if-height-r.false in
     rw (good, lt-ltb c.args.r (height (strike_in (view_of c.args.font.now) c.args.font.now c.args.body).body) below)
     (c.part.ensures
-    ∙ ap (λ (s : Strike). take s.body.raster (drop (s.bitmap + c.args.r * s.body.raster) c.args.font.now)) (strike-is (goal.at.returns c).After-height))
+    ∙ ap (λ (s : Strike). take s.body.raster (drop (s.bitmap + c.args.r * s.body.raster) c.args.font.now))
+    (strike-is (goal.at.returns c).After-height))

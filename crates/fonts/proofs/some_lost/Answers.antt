@@ -26,10 +26,12 @@ name-is seen =
     ∙ ap (λ (map : List ℕ). name_of (word map seen.loop-k.k)) seen.map-map.ensures
     ∙ sym (name-mapped seen.args.h (λ n. no_strike) seen.args.font.now seen.requires.0 seen.loop-k.k)
 
-width_is : (seen : After-lost) → word seen.widths-widths.result.now seen.loop-k.k ≡ word (widths_of seen.args.h seen.args.font.now) seen.loop-k.k
+width_is : (seen : After-lost) → word seen.widths-widths.result.now seen.loop-k.k
+    ≡ word (widths_of seen.args.h seen.args.font.now) seen.loop-k.k
 width_is seen = ap (λ (widths : List ℕ). word widths seen.loop-k.k) seen.widths-widths.ensures
 
-pairs-are : (seen : After-lost) → word seen.pairs-pairs.result seen.of-name.result.body ≡ pairs_in seen.args.h seen.args.font.now (name_in seen.args.h seen.args.font.now seen.loop-k.k).body
+pairs-are : (seen : After-lost) → word seen.pairs-pairs.result seen.of-name.result.body
+    ≡ pairs_in seen.args.h seen.args.font.now (name_in seen.args.h seen.args.font.now seen.loop-k.k).body
 pairs-are seen =
     ap (λ (table : List ℕ). word table seen.of-name.result.body) seen.pairs-pairs.ensures
     ∙ pairs-at seen.args.h seen.args.font.now seen.of-name.result.body (omega (arith, seen.of-name.ensures.small.0))
@@ -49,10 +51,15 @@ loop-k-init c = (omega arith, refl)
 pub returns-then-lost : goal.returns-then-lost
 returns-then-lost c =
     sym (some-here _ (codes c.args.h + 1) c.loop-k.k
-    (omega (arith, entries (goal.at.returns-then-lost c).At-loop-k, c.loop-k-test.true)) (lost-is (goal.at.returns-then-lost c).After-lost ∙ c.if-lost.true))
+    (omega (arith, entries (goal.at.returns-then-lost c).At-loop-k, c.loop-k-test.true))
+    (lost-is (goal.at.returns-then-lost c).After-lost ∙ c.if-lost.true))
 
 pub loop-k-preserved : goal.loop-k-preserved
-loop-k-preserved c = (omega arith, none_more _ c.loop-k.k c.loop-k.invariant.1 (lost-is (goal.at.loop-k-preserved c).After-lost ∙ c.if-lost.false))
+loop-k-preserved c = (
+  omega arith,
+  none_more _ c.loop-k.k c.loop-k.invariant.1
+      (lost-is (goal.at.loop-k-preserved c).After-lost ∙ c.if-lost.false),
+)
 
 pub returns : goal.returns
 returns c =

@@ -26,7 +26,8 @@ low b less = row_at b.args.r _ _ _ b.loop-row.invariant.1 less _ b.requires.with
 
 in-file : (b : At-loop-row) → (less : b.loop-row.row < b.args.r.rows) → b.loop-row.from + 1 < length b.args.font.now
 in-file b less =
-    let here = row-in-file b.args.r _ _ _ b.loop-row.invariant.1 less _ (span-tests b.args.r 0 (length b.args.font.now) b.requires.font_value).1 in
+    let here = row-in-file b.args.r _ _ _ b.loop-row.invariant.1 less _
+    (span-tests b.args.r 0 (length b.args.font.now) b.requires.font_value).1 in
     omega (arith, (alone b))
 
 less : (c : After-mark) → c.loop-row.row < c.args.r.rows
@@ -37,8 +38,11 @@ loop-row-init c = (omega arith, at-first-row c.args.r, nothing-drawn _ _ _ _)
 
 pub dots_from-requires : goal.dots_from-requires
 dots_from-requires c =
-    let taken = c.loop-row-test.true in
-    (omega (arith, far (goal.at.dots_from-requires c).At-loop-row taken), c.requires.within.7, in-file (goal.at.dots_from-requires c).At-loop-row taken)
+    let taken = c.loop-row-test.true in (
+      omega (arith, far (goal.at.dots_from-requires c).At-loop-row taken),
+      c.requires.within.7,
+      in-file (goal.at.dots_from-requires c).At-loop-row taken,
+    )
 
 pub mark-requires : goal.mark-requires
 mark-requires c = inside (goal.at.mark-requires c).At-loop-row c.loop-row-test.true
@@ -55,7 +59,8 @@ loop-row-preserved c =
     let read = c.dots_from.ensures in (
       omega (arith, less (goal.at.loop-row-preserved c).After-mark),
       at-next-row c.args.r c.loop-row.row _ _ here,
-      narrow-more c.args.font.now c.args.r (mode_of c.args.mode) _ _ _ _ _ _ _ here c.loop-row.invariant.2 read (alone (goal.at.loop-row-preserved c).At-loop-row) c.mark.ensures,
+      narrow-more c.args.font.now c.args.r (mode_of c.args.mode) _ _ _ _ _ _ _ here c.loop-row.invariant.2 read
+          (alone (goal.at.loop-row-preserved c).At-loop-row) c.mark.ensures,
     )
 
 pub returns : goal.returns

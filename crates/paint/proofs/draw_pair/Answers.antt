@@ -22,7 +22,8 @@ low : (b : At-loop-row) → (less : b.loop-row.row < b.args.r.rows) → b.loop-r
 low b less = row_at b.args.r _ _ _ b.loop-row.invariant.1 less _ b.requires.within
 
 in-file : (b : At-loop-row) → (less : b.loop-row.row < b.args.r.rows) → b.loop-row.from + b.args.r.last + 1 < length b.args.font.now
-in-file b less = row-in-file b.args.r _ _ _ b.loop-row.invariant.1 less _ (span-tests b.args.r 1 (length b.args.font.now) b.requires.font_value).1
+in-file b less = row-in-file b.args.r _ _ _ b.loop-row.invariant.1 less _
+    (span-tests b.args.r 1 (length b.args.font.now) b.requires.font_value).1
 
 less : (c : After-draw_two) → c.loop-row.row < c.args.r.rows
 less c = c.loop-row-test.true
@@ -33,7 +34,18 @@ loop-row-init c = (omega arith, at-first-row c.args.r, nothing-drawn _ _ _ _)
 pub draw_two-requires : goal.draw_two-requires
 draw_two-requires c =
     let taken = c.loop-row-test.true in
-    record { last_in_bounds = (inside (goal.at.draw_two-requires c).At-loop-row taken, omega (arith, low (goal.at.draw_two-requires c).At-loop-row taken), (span-tests c.args.r 1 (length c.args.font.now) c.requires.font_value).0); from_bound = (omega (arith, far (goal.at.draw_two-requires c).At-loop-row taken), c.requires.within.7, in-file (goal.at.draw_two-requires c).At-loop-row taken) }
+    record {
+      last_in_bounds = (
+        inside (goal.at.draw_two-requires c).At-loop-row taken,
+        omega (arith, low (goal.at.draw_two-requires c).At-loop-row taken),
+        (span-tests c.args.r 1 (length c.args.font.now) c.requires.font_value).0,
+      );
+      from_bound = (
+        omega (arith, far (goal.at.draw_two-requires c).At-loop-row taken),
+        c.requires.within.7,
+        in-file (goal.at.draw_two-requires c).At-loop-row taken,
+      );
+    }
 
 pub overflow_add-from : goal.overflow_add-from
 overflow_add-from c = omega (arith, far (goal.at.overflow_add-from c).At-loop-row (less (goal.at.overflow_add-from c).After-draw_two))
@@ -47,7 +59,8 @@ loop-row-preserved c =
     let drawn = c.draw_two.ensures in (
       omega (arith, less (goal.at.loop-row-preserved c).After-draw_two),
       at-next-row c.args.r row _ _ c.loop-row.invariant.1,
-      row_more c.args.font.now c.args.r (mode_of c.args.mode) _ _ row c.loop-row.lent _ _ c.loop-row.invariant.1 c.loop-row.invariant.2 drawn,
+      row_more c.args.font.now c.args.r (mode_of c.args.mode) _ _ row c.loop-row.lent _ _ c.loop-row.invariant.1 c.loop-row.invariant.2
+          drawn,
     )
 
 pub returns : goal.returns

@@ -20,7 +20,8 @@ loop-w-preserved c =
     let own = mode_of c.args.mode in
     let less = c.loop-w-test.true in
     let marks = marks-before c.args.font.now c.args.r own c.args.from w c.loop-w.mask _ c.loop-w.invariant.2 c.window.ensures less in
-    let drawn = word_more c.args.font.now c.args.r own c.args.from c.args.at w _ c.loop-w.lent _ _ c.loop-w.invariant.3 marks c.mark.ensures in
+    let drawn = word_more c.args.font.now c.args.r own c.args.from c.args.at w _ c.loop-w.lent _ _ c.loop-w.invariant.3 marks c.mark.ensures
+    in
     (omega arith, row_room c.args.font.now c.args.r own c.args.from c.args.at (w + 1) _ _ drawn, whole-mask c.args.r w, drawn)
 
 pub window-requires-2 : goal.window-requires-2

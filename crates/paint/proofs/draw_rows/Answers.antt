@@ -31,7 +31,15 @@ pub draw_row-requires : goal.draw_row-requires
 draw_row-requires c =
     let taken = c.loop-row-test.true in
     let within = c.requires in
-    record { last_in_bounds = (inside (goal.at.draw_row-requires c).At-loop-row taken, omega (arith, low (goal.at.draw_row-requires c).At-loop-row taken), within.2); from_bound = (omega (arith, far (goal.at.draw_row-requires c).At-loop-row taken), within.7) }
+    record {
+      last_in_bounds = (
+        inside (goal.at.draw_row-requires c).At-loop-row taken,
+        omega (arith, low (goal.at.draw_row-requires c).At-loop-row taken),
+        within.2,
+      );
+      from_bound =
+          (omega (arith, far (goal.at.draw_row-requires c).At-loop-row taken), within.7);
+    }
 
 pub overflow_add-from : goal.overflow_add-from
 overflow_add-from c = omega (arith, far (goal.at.overflow_add-from c).At-loop-row (less (goal.at.overflow_add-from c).After-draw_row))
@@ -45,7 +53,8 @@ loop-row-preserved c =
     let drawn = c.draw_row.ensures in (
       omega (arith, less (goal.at.loop-row-preserved c).After-draw_row),
       at-next-row c.args.r row _ _ c.loop-row.invariant.1,
-      row_more c.args.font.now c.args.r (mode_of c.args.mode) _ _ row c.loop-row.lent _ _ c.loop-row.invariant.1 c.loop-row.invariant.2 drawn,
+      row_more c.args.font.now c.args.r (mode_of c.args.mode) _ _ row c.loop-row.lent _ _ c.loop-row.invariant.1 c.loop-row.invariant.2
+          drawn,
     )
 
 pub returns : goal.returns

@@ -33,7 +33,20 @@ loop-row-init c = (omega arith, at-first-row c.args.r, nothing-drawn _ _ _ _)
 pub draw_line-requires : goal.draw_line-requires
 draw_line-requires c =
     let taken = c.loop-row-test.true in
-    let within = c.requires.within in record { last_in_bounds = (inside (goal.at.draw_line-requires c).At-loop-row taken, omega (arith, low (goal.at.draw_line-requires c).At-loop-row taken), within.0.2, within.1); from_bound = (omega (arith, far (goal.at.draw_line-requires c).At-loop-row taken), within.0.7, in-file (goal.at.draw_line-requires c).At-loop-row taken) }
+    let within = c.requires.within in
+    record {
+      last_in_bounds = (
+        inside (goal.at.draw_line-requires c).At-loop-row taken,
+        omega (arith, low (goal.at.draw_line-requires c).At-loop-row taken),
+        within.0.2,
+        within.1,
+      );
+      from_bound = (
+        omega (arith, far (goal.at.draw_line-requires c).At-loop-row taken),
+        within.0.7,
+        in-file (goal.at.draw_line-requires c).At-loop-row taken,
+      );
+    }
 
 pub overflow_add-from : goal.overflow_add-from
 overflow_add-from c = omega (arith, far (goal.at.overflow_add-from c).At-loop-row (less (goal.at.overflow_add-from c).After-draw_line))
@@ -47,7 +60,8 @@ loop-row-preserved c =
     let drawn = c.draw_line.ensures in (
       omega (arith, less (goal.at.loop-row-preserved c).After-draw_line),
       at-next-row c.args.r row _ _ c.loop-row.invariant.1,
-      row_more c.args.font.now c.args.r (mode_of c.args.mode) _ _ row c.loop-row.lent _ _ c.loop-row.invariant.1 c.loop-row.invariant.2 drawn,
+      row_more c.args.font.now c.args.r (mode_of c.args.mode) _ _ row c.loop-row.lent _ _ c.loop-row.invariant.1 c.loop-row.invariant.2
+          drawn,
     )
 
 pub returns : goal.returns

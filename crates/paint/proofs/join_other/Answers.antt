@@ -7,7 +7,12 @@ use Rattle.paint.proofs.Drawing.{wide-last}
 use Rattle.paint.proofs.join_other.Goals as goal
 
 pub join_pair-requires : goal.join_pair-requires
-join_pair-requires c = record { within = c.requires.within; within_2 = c.requires.within_2; font_value = sym c.spans.ensures ∙ c.if-spans.true }
+join_pair-requires c = record {
+  within = c.requires.within;
+  within_2 = c.requires.within_2;
+  font_value =
+      sym c.spans.ensures ∙ c.if-spans.true;
+}
 
 pub join_wide-requires : goal.join_wide-requires
 join_wide-requires c =

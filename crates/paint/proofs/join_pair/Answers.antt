@@ -4,7 +4,11 @@ use Rattle.paint.proofs.Drawing.{keep_cleared, keep-stays}
 use Rattle.paint.proofs.join_pair.Goals as goal
 
 pub returns-then-mode-lt2 : goal.returns-then-mode-lt2
-returns-then-mode-lt2 c = record { keep = keep_cleared c.args.font.now c.args.r _ c.args.mode _ c.if-mode-lt2.true c.settle_pair.ensures.keep; flip = c.settle_pair.ensures.flip }
+returns-then-mode-lt2 c = record {
+  keep = keep_cleared c.args.font.now c.args.r _ c.args.mode _ c.if-mode-lt2.true
+      c.settle_pair.ensures.keep;
+  flip = c.settle_pair.ensures.flip;
+}
 
 pub returns : goal.returns
 returns c = record { keep = keep-stays c.args.font.now c.args.r _ c.args.mode c.if-mode-lt2.false; flip = c.draw_pair.ensures }

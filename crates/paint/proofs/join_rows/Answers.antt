@@ -9,4 +9,8 @@ returns-then-mode-lt2 c =
     record { keep = cleared; flip = c.draw_rows.ensures }
 
 pub returns-else-mode-lt2 : goal.returns-else-mode-lt2
-returns-else-mode-lt2 c = record { keep = keep-stays c.args.font.now c.args.r _ c.args.mode c.if-mode-lt2.false; flip = c.draw_rows.ensures }
+returns-else-mode-lt2 c = record {
+  keep = keep-stays c.args.font.now c.args.r _ c.args.mode c.if-mode-lt2.false;
+  flip =
+      c.draw_rows.ensures;
+}

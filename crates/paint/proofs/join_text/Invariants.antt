@@ -14,10 +14,14 @@ use Rattle.paint.proofs.join_text.Given as goal
 
 abbrev pub invariant-loop-i : goal.invariant-loop-i
 invariant-loop-i l =
-    (l.i ≤ length l.text) × (length l.keep ≡ length l.initial.keep) × (length l.flip ≡ length l.initial.flip) × AllWords l.keep × AllWords l.flip
-    × (drawn clears (face_from l.v l.font) l.k l.initial.pen l.text l.initial.keep ≡ drawn clears (face_from l.v l.font) l.k l.pen (drop l.i l.text) l.keep)
-    × (drawn whole (face_from l.v l.font) l.k l.initial.pen l.text l.initial.flip ≡ drawn whole (face_from l.v l.font) l.k l.pen (drop l.i l.text) l.flip)
-    × (pen_along (steps_of (face_from l.v l.font)) l.initial.pen l.text ≡ pen_along (steps_of (face_from l.v l.font)) l.pen (drop l.i l.text))
+    (l.i ≤ length l.text) × (length l.keep ≡ length l.initial.keep) × (length l.flip ≡ length l.initial.flip) × AllWords l.keep
+    × AllWords l.flip
+    × (drawn clears (face_from l.v l.font) l.k l.initial.pen l.text l.initial.keep
+    ≡ drawn clears (face_from l.v l.font) l.k l.pen (drop l.i l.text) l.keep)
+    × (drawn whole (face_from l.v l.font) l.k l.initial.pen l.text l.initial.flip
+    ≡ drawn whole (face_from l.v l.font) l.k l.pen (drop l.i l.text) l.flip)
+    × (pen_along (steps_of (face_from l.v l.font)) l.initial.pen l.text
+    ≡ pen_along (steps_of (face_from l.v l.font)) l.pen (drop l.i l.text))
     × Gone l.initial.pen l.pen l.i
 
 abbrev pub decreases-loop-i : goal.decreases-loop-i

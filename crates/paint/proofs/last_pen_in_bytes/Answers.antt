@@ -13,10 +13,13 @@ use Rattle.paint.proofs.Along.{along-same, spelt-steps, pen-starts}
 use Rattle.paint.proofs.last_pen_in_bytes.Goals as goal
 use Rattle.paint.proofs.last_pen_in_bytes.Goals.{After-dummy_advance-dummy}
 
-steps : (found : After-dummy_advance-dummy) → (c : ℕ) → spelt_steps found.args.v.header found.pointers-pointers.result.now found.widths-widths.result.now found.dummy_advance-dummy.result c ≡ steps_of (face_from found.args.v (words_of found.args.font.now)) c
+steps : (found : After-dummy_advance-dummy) → (c : ℕ)
+    → spelt_steps found.args.v.header found.pointers-pointers.result.now found.widths-widths.result.now found.dummy_advance-dummy.result c
+    ≡ steps_of (face_from found.args.v (words_of found.args.font.now)) c
 steps found =
     let first = ap (λ (s : Strike). pointer_bytes s found.args.font.now) found.first.ensures in
-    spelt-steps found.args.v found.args.font.now found.pointers-pointers.result.now found.widths-widths.result.now found.dummy_advance-dummy.result
+    spelt-steps found.args.v found.args.font.now found.pointers-pointers.result.now found.widths-widths.result.now
+    found.dummy_advance-dummy.result
     (sym found.index.ensures ∙ found.if-index.false)
     (found.pointers-pointers.ensures ∙ first) found.widths-widths.ensures found.dummy_advance-dummy.ensures
 
@@ -25,7 +28,11 @@ unfolding last_pen
 returns-then-index c =
     let face = face_from c.args.v (words_of c.args.font.now) in
     let start = pen-starts _ c.args.x c.at.ensures.value c.ranges.x in
-    record { value = c.pen_along_map.ensures.value ∙ ap (λ (p : Pen). pen_along (steps_of face) p c.args.text.now) start; near = c.pen_along_map.ensures.near }
+    record {
+      value = c.pen_along_map.ensures.value ∙ ap (λ (p : Pen). pen_along (steps_of face) p c.args.text.now) start;
+      near =
+          c.pen_along_map.ensures.near;
+    }
 
 pub returns : goal.returns
 unfolding last_pen

@@ -15,12 +15,16 @@ use Rattle.paint.proofs.mark_mapped.Given as goal
 
 abbrev pub invariant-loop-i : goal.invariant-loop-i
 invariant-loop-i l =
-    (l.i ≤ length l.text) × (length l.flip ≡ length l.initial.flip) × AllWords l.flip × (length l.keep ≡ length l.initial.keep) × AllWords l.keep
-    × (drawn whole (face_from l.v l.font) l.k l.initial.pen l.text l.initial.flip ≡ drawn whole (face_from l.v l.font) l.k l.pen (drop l.i l.text) l.flip)
+    (l.i ≤ length l.text) × (length l.flip ≡ length l.initial.flip) × AllWords l.flip × (length l.keep ≡ length l.initial.keep)
+    × AllWords l.keep
+    × (drawn whole (face_from l.v l.font) l.k l.initial.pen l.text l.initial.flip
+    ≡ drawn whole (face_from l.v l.font) l.k l.pen (drop l.i l.text) l.flip)
     × ((l.settles ≡ true
-    → drawn whole (face_from l.v l.font) (erasing l.k) l.initial.pen l.text l.initial.keep ≡ drawn whole (face_from l.v l.font) (erasing l.k) l.pen (drop l.i l.text) l.keep)
+    → drawn whole (face_from l.v l.font) (erasing l.k) l.initial.pen l.text l.initial.keep
+    ≡ drawn whole (face_from l.v l.font) (erasing l.k) l.pen (drop l.i l.text) l.keep)
     × (l.settles ≡ false → l.keep ≡ l.initial.keep))
-    × (pen_along (steps_of (face_from l.v l.font)) l.initial.pen l.text ≡ pen_along (steps_of (face_from l.v l.font)) l.pen (drop l.i l.text))
+    × (pen_along (steps_of (face_from l.v l.font)) l.initial.pen l.text
+    ≡ pen_along (steps_of (face_from l.v l.font)) l.pen (drop l.i l.text))
     × Gone l.initial.pen l.pen l.i
 
 abbrev pub decreases-loop-i : goal.decreases-loop-i

@@ -15,11 +15,18 @@ use Rattle.paint.proofs.measure.Goals as goal
 use Rattle.paint.proofs.measure.Goals.{After-read}
 
 -- what is answered, and what it tells
-answer : (read : After-read) → (reply : Reply) → reply ≡ measure_for (font_number read.args.font.now) read.args.font.now read.args.x read.args.text.now → (reply ≡ measure_for (font_number read.args.font.now) read.args.font.now read.args.x read.args.text.now) × TellsMeasure reply (font_number read.args.font.now) read.args.font.now read.args.x read.args.text.now
+answer : (read : After-read) → (reply : Reply) → reply
+    ≡ measure_for (font_number read.args.font.now) read.args.font.now read.args.x read.args.text.now
+    → (reply ≡ measure_for (font_number read.args.font.now) read.args.font.now read.args.x read.args.text.now)
+    × TellsMeasure reply (font_number read.args.font.now) read.args.font.now read.args.x read.args.text.now
 answer read = measure-tells (font_number read.args.font.now) read.args.font.now read.args.x read.args.text.now
 
 pub returns-in-Refused : goal.returns-in-Refused
-returns-in-Refused c = let what = read-refused (font_number c.args.font.now) (view_of c.args.font.now) _ (sym c.read.ensures.value ∙ c.in-Refused.is) in let both = answer (goal.at.returns-in-Refused c).After-read _ (measure-refused (font_number c.args.font.now) c.args.font.now c.args.x c.args.text.now _ what.0 what.1) in record { value = both.0; numbers = both.1 }
+returns-in-Refused c = let what = read-refused (font_number c.args.font.now) (view_of c.args.font.now) _
+    (sym c.read.ensures.value ∙ c.in-Refused.is) in
+    let both = answer (goal.at.returns-in-Refused c).After-read _
+    (measure-refused (font_number c.args.font.now) c.args.font.now c.args.x c.args.text.now _ what.0 what.1) in
+    record { value = both.0; numbers = both.1 }
 
 pub returns-in-Accepted : goal.returns-in-Accepted
 returns-in-Accepted c =
@@ -27,4 +34,5 @@ returns-in-Accepted c =
     let face = face_from c.in-Accepted.v c.args.font.now in let both = answer (goal.at.returns-in-Accepted c).After-read _
     (c.measure_read.ensures
     ∙ ap (λ (z : ℤ). measure_with face z c.args.text.now) (to_z-of_z c.ranges.x)
-    ∙ measured (font_number c.args.font.now) c.args.font.now c.args.x c.args.text.now _ what.0 what.1) in record { value = both.0; numbers = both.1 }
+    ∙ measured (font_number c.args.font.now) c.args.font.now c.args.x c.args.text.now _ what.0 what.1) in
+    record { value = both.0; numbers = both.1 }

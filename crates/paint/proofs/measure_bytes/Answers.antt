@@ -16,16 +16,25 @@ use Rattle.paint.proofs.measure_bytes.Goals as goal
 use Rattle.paint.proofs.measure_bytes.Goals.{After-read}
 
 -- what is answered, and what it tells
-answer : (read : After-read) → (reply : Reply) → reply ≡ measure_for (file_number read.args.font.now) (words_of read.args.font.now) read.args.x read.args.text.now → (reply ≡ measure_for (file_number read.args.font.now) (words_of read.args.font.now) read.args.x read.args.text.now) × TellsMeasure reply (file_number read.args.font.now) (words_of read.args.font.now) read.args.x read.args.text.now
+answer : (read : After-read) → (reply : Reply) → reply
+    ≡ measure_for (file_number read.args.font.now) (words_of read.args.font.now) read.args.x read.args.text.now
+    → (reply ≡ measure_for (file_number read.args.font.now) (words_of read.args.font.now) read.args.x read.args.text.now)
+    × TellsMeasure reply (file_number read.args.font.now) (words_of read.args.font.now) read.args.x read.args.text.now
 answer read = measure-tells (file_number read.args.font.now) (words_of read.args.font.now) read.args.x read.args.text.now
 
 pub returns-in-Refused : goal.returns-in-Refused
-returns-in-Refused c = let what = read-refused (file_number c.args.font.now) (view_of (words_of c.args.font.now)) _ (sym c.read.ensures.value ∙ c.in-Refused.is) in let both = answer (goal.at.returns-in-Refused c).After-read _ (measure-refused (file_number c.args.font.now) (words_of c.args.font.now) c.args.x c.args.text.now _ what.0 what.1) in record { value = both.0; numbers = both.1 }
+returns-in-Refused c = let what = read-refused (file_number c.args.font.now) (view_of (words_of c.args.font.now)) _
+    (sym c.read.ensures.value ∙ c.in-Refused.is) in
+    let both = answer (goal.at.returns-in-Refused c).After-read _
+    (measure-refused (file_number c.args.font.now) (words_of c.args.font.now) c.args.x c.args.text.now _ what.0 what.1) in
+    record { value = both.0; numbers = both.1 }
 
 pub returns-in-Accepted : goal.returns-in-Accepted
 returns-in-Accepted c =
-    let what = read-accepted (file_number c.args.font.now) (view_of (words_of c.args.font.now)) _ (sym c.read.ensures.value ∙ c.in-Accepted.is) in
+    let what = read-accepted (file_number c.args.font.now) (view_of (words_of c.args.font.now)) _
+    (sym c.read.ensures.value ∙ c.in-Accepted.is) in
     let face = face_from c.in-Accepted.v (words_of c.args.font.now) in let both = answer (goal.at.returns-in-Accepted c).After-read _
     (c.measure_read_bytes.ensures
     ∙ ap (λ (z : ℤ). measure_with face z c.args.text.now) (to_z-of_z c.ranges.x)
-    ∙ measured (file_number c.args.font.now) (words_of c.args.font.now) c.args.x c.args.text.now _ what.0 what.1) in record { value = both.0; numbers = both.1 }
+    ∙ measured (file_number c.args.font.now) (words_of c.args.font.now) c.args.x c.args.text.now _ what.0 what.1) in
+    record { value = both.0; numbers = both.1 }

@@ -18,16 +18,20 @@ number : (n : After-measure_number-refusal) → n.measure_number-refusal.result 
 number n = n.measure_number-refusal.ensures ∙ ap (λ (z : ℤ). measure_number z (length n.args.text.now)) (to_z-of_z n.ranges.x)
 
 pub returns-then-refusal-ne0 : goal.returns-then-refusal-ne0
-returns-then-refusal-ne0 c = measuring-refused (face_from c.args.v c.args.font.now) c.args.x c.args.text.now _ (number (goal.at.returns-then-refusal-ne0 c).After-measure_number-refusal) c.if-refusal-ne0.true
+returns-then-refusal-ne0 c = measuring-refused (face_from c.args.v c.args.font.now) c.args.x c.args.text.now _
+    (number (goal.at.returns-then-refusal-ne0 c).After-measure_number-refusal) c.if-refusal-ne0.true
 
 pub pen_along-requires : goal.pen_along-requires
 pen_along-requires c =
-    let short = (measure-good c.args.x (length c.args.text.now) (sym (number (goal.at.pen_along-requires c).After-measure_number-refusal) ∙ c.if-refusal-ne0.false)).1 in
+    let short = (measure-good c.args.x (length c.args.text.now)
+    (sym (number (goal.at.pen_along-requires c).After-measure_number-refusal) ∙ c.if-refusal-ne0.false)).1 in
     record { starting = (omega arith, omega arith); text_len_bound = short }
 
 pub returns : goal.returns
 unfolding last_pen
 returns c =
     let pen = pen-starts _ c.args.x c.at.ensures.value c.ranges.x in
-    let last = c.pen_along.ensures.value ∙ ap (λ (p : Pen). pen_along (steps_of (face_from c.args.v c.args.font.now)) p c.args.text.now) pen in
-    measuring-done (face_from c.args.v c.args.font.now) c.args.x c.args.text.now _ (number (goal.at.returns c).After-measure_number-refusal) _ _ c.if-refusal-ne0.false c.done.ensures last
+    let last = c.pen_along.ensures.value ∙ ap (λ (p : Pen). pen_along (steps_of (face_from c.args.v c.args.font.now)) p c.args.text.now) pen
+    in
+    measuring-done (face_from c.args.v c.args.font.now) c.args.x c.args.text.now _ (number (goal.at.returns c).After-measure_number-refusal)
+    _ _ c.if-refusal-ne0.false c.done.ensures last

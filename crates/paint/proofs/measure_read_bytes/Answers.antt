@@ -20,12 +20,17 @@ number : (n : After-measure_number-refusal) → n.measure_number-refusal.result 
 number n = n.measure_number-refusal.ensures ∙ ap (λ (z : ℤ). measure_number z (length n.args.text.now)) (same-x n)
 
 pub returns-then-refusal-ne0 : goal.returns-then-refusal-ne0
-returns-then-refusal-ne0 c = measuring-refused (face_from c.args.v (words_of c.args.font.now)) c.args.x c.args.text.now _ (number (goal.at.returns-then-refusal-ne0 c).After-measure_number-refusal) c.if-refusal-ne0.true
+returns-then-refusal-ne0 c = measuring-refused (face_from c.args.v (words_of c.args.font.now)) c.args.x c.args.text.now _
+    (number (goal.at.returns-then-refusal-ne0 c).After-measure_number-refusal) c.if-refusal-ne0.true
 
 pub last_pen_in_bytes-requires : goal.last_pen_in_bytes-requires
-last_pen_in_bytes-requires c = (measure-good c.args.x (length c.args.text.now) (sym (number (goal.at.last_pen_in_bytes-requires c).After-measure_number-refusal) ∙ c.if-refusal-ne0.false)).1
+last_pen_in_bytes-requires c = (measure-good c.args.x (length c.args.text.now)
+    (sym (number (goal.at.last_pen_in_bytes-requires c).After-measure_number-refusal) ∙ c.if-refusal-ne0.false)).1
 
 pub returns : goal.returns
 returns c =
-    let last = c.last_pen_in_bytes.ensures.value ∙ ap (λ (z : ℤ). last_pen (face_from c.args.v (words_of c.args.font.now)) z c.args.text.now) (same-x (goal.at.returns c).After-measure_number-refusal) in
-    measuring-done (face_from c.args.v (words_of c.args.font.now)) c.args.x c.args.text.now _ (number (goal.at.returns c).After-measure_number-refusal) _ _ c.if-refusal-ne0.false c.done.ensures last
+    let last = c.last_pen_in_bytes.ensures.value
+    ∙ ap (λ (z : ℤ). last_pen (face_from c.args.v (words_of c.args.font.now)) z c.args.text.now)
+    (same-x (goal.at.returns c).After-measure_number-refusal) in
+    measuring-done (face_from c.args.v (words_of c.args.font.now)) c.args.x c.args.text.now _
+    (number (goal.at.returns c).After-measure_number-refusal) _ _ c.if-refusal-ne0.false c.done.ensures last

@@ -18,7 +18,12 @@ returns-in-Refused c =
     let refused = read-refused (font_number c.args.font.now) (view_of c.args.font.now) _ in
     let what = refused (sym c.read.ensures.value ∙ c.in-Refused.is) in
     let reply = reply-refused (call_of c.args.font.now c.args.l c.args.text.now) _ what.0 what.1 c.args.s (length c.args.panel.now ∷ []) in
-    record { value = reply; panel = paint-refused (call_of c.args.font.now c.args.l c.args.text.now) _ what.0 what.1 c.args.s c.args.panel.now; numbers = tells _ _ _ reply }
+    record {
+      value = reply;
+      panel = paint-refused (call_of c.args.font.now c.args.l c.args.text.now) _ what.0 what.1 c.args.s
+          c.args.panel.now;
+      numbers = tells _ _ _ reply;
+    }
 
 pub returns-in-Accepted : goal.returns-in-Accepted
 unfolding reply_of

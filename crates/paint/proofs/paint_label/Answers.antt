@@ -33,22 +33,42 @@ returns-then-refusal-ne0 c =
     let number_is = c.number_with-refusal.ensures in
     let some = c.if-refusal-ne0.true in
     let reply = replies-refused _ _ _ number_is some in
-    record { value = reply; panel = panel-stays (face_from c.args.v c.args.font.now) c.args.s c.args.l c.args.text.now _ c.args.panel.now number_is some; numbers = tells _ _ _ reply }
+    record {
+      value = reply;
+      panel = panel-stays (face_from c.args.v c.args.font.now) c.args.s c.args.l c.args.text.now _ c.args.panel.now
+          number_is some;
+      numbers = tells _ _ _ reply;
+    }
 
 pub paint_text-requires : goal.paint_text-requires
 paint_text-requires c =
     let near = c.at.ensures.near in
-    let room = accepted-stroke c.args.s (length c.args.panel.now) c.args.l (length c.args.text.now) (number (goal.at.paint_text-requires c).After-at) in
-    let short = (accepted-label c.args.s (length c.args.panel.now) c.args.l (length c.args.text.now) (number (goal.at.paint_text-requires c).After-at)).short in
-    record { drawable = rw (stroke (goal.at.paint_text-requires c).After-at) room; starting = (omega arith, omega arith); text_len_bound = short }
+    let room = accepted-stroke c.args.s (length c.args.panel.now) c.args.l (length c.args.text.now)
+    (number (goal.at.paint_text-requires c).After-at) in
+    let short = (accepted-label c.args.s (length c.args.panel.now) c.args.l (length c.args.text.now)
+    (number (goal.at.paint_text-requires c).After-at)).short in
+    record {
+      drawable = rw (stroke (goal.at.paint_text-requires c).After-at) room;
+      starting = (omega arith, omega arith);
+      text_len_bound =
+          short;
+    }
 
 pub returns : goal.returns
 unfolding reply_with last_pen effect_with stroke_of
 returns c =
     let start = start_is (goal.at.returns c).After-at in
-    let last = c.paint_text.ensures.value ∙ ap (λ (p : Pen). pen_along (steps_of (face_from c.args.v c.args.font.now)) p c.args.text.now) start in
+    let last = c.paint_text.ensures.value ∙ ap (λ (p : Pen). pen_along (steps_of (face_from c.args.v c.args.font.now)) p c.args.text.now)
+    start in
     let marks =
     c.paint_text.ensures.panel
-    ∙ ap₂ (λ (k : Stroke) (p : Pen). on_panel (label_effect (face_from c.args.v c.args.font.now) k p c.args.text.now) k c.args.panel.now) (stroke (goal.at.returns c).After-at) start in
-    let reply = replies-done c.done.result _ _ (number (goal.at.returns c).After-at) (c.done.ensures ∙ ap (λ (p : Pen). Done (finish_of p)) last) in
-    record { value = reply; panel = panel-painted (face_from c.args.v c.args.font.now) c.args.s c.args.l c.args.text.now _ c.args.panel.now (number (goal.at.returns c).After-at) marks; numbers = tells _ _ _ reply }
+    ∙ ap₂ (λ (k : Stroke) (p : Pen). on_panel (label_effect (face_from c.args.v c.args.font.now) k p c.args.text.now) k c.args.panel.now)
+    (stroke (goal.at.returns c).After-at) start in
+    let reply = replies-done c.done.result _ _ (number (goal.at.returns c).After-at)
+    (c.done.ensures ∙ ap (λ (p : Pen). Done (finish_of p)) last) in
+    record {
+      value = reply;
+      panel = panel-painted (face_from c.args.v c.args.font.now) c.args.s c.args.l c.args.text.now _ c.args.panel.now
+          (number (goal.at.returns c).After-at) marks;
+      numbers = tells _ _ _ reply;
+    }

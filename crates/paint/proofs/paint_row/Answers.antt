@@ -27,22 +27,34 @@ start_is : (c : After-at) → c.at.result ≡ pen_at c.args.l.x
 start_is c = pen-starts _ c.args.l.x c.at.ensures.value (search rules)
 
 pub returns-then-row-gt255 : goal.returns-then-row-gt255
-returns-then-row-gt255 c = row-far (face_from c.args.v c.args.font.now) c.args.s c.args.l c.args.text.now c.args.row c.args.words.now c.if-row-gt255.true
+returns-then-row-gt255 c = row-far (face_from c.args.v c.args.font.now) c.args.s c.args.l c.args.text.now c.args.row c.args.words.now
+    c.if-row-gt255.true
 
 pub returns-then-number_with-ne0 : goal.returns-then-number_with-ne0
-returns-then-number_with-ne0 c = row-refused (face_from c.args.v c.args.font.now) c.args.s c.args.l c.args.text.now c.args.row c.args.words.now _ c.number_with.ensures c.if-number_with-ne0.true
+returns-then-number_with-ne0 c = row-refused (face_from c.args.v c.args.font.now) c.args.s c.args.l c.args.text.now c.args.row
+    c.args.words.now _ c.number_with.ensures c.if-number_with-ne0.true
 
 pub paint_text-requires : goal.paint_text-requires
 paint_text-requires c =
     let near = c.at.ensures.near in
-    let room = accepted-stroke (one_row c.args.s) (length c.args.words.now) c.args.l (length c.args.text.now) (number (goal.at.paint_text-requires c).After-at) in
-    let short = (accepted-label (one_row c.args.s) (length c.args.words.now) c.args.l (length c.args.text.now) (number (goal.at.paint_text-requires c).After-at)).short in
-    record { drawable = rw (stroke (goal.at.paint_text-requires c).After-at) (drawable-in-row (one_row c.args.s) c.args.l c.args.row _ room); starting = (omega arith, omega arith); text_len_bound = short }
+    let room = accepted-stroke (one_row c.args.s) (length c.args.words.now) c.args.l (length c.args.text.now)
+    (number (goal.at.paint_text-requires c).After-at) in
+    let short = (accepted-label (one_row c.args.s) (length c.args.words.now) c.args.l (length c.args.text.now)
+    (number (goal.at.paint_text-requires c).After-at)).short in
+    record {
+      drawable = rw (stroke (goal.at.paint_text-requires c).After-at)
+          (drawable-in-row (one_row c.args.s) c.args.l c.args.row _ room);
+      starting = (omega arith, omega arith);
+      text_len_bound = short;
+    }
 
 pub returns : goal.returns
 returns c =
     let small = c.if-row-gt255.false in
-    let there = (accepted-label (one_row c.args.s) (length c.args.words.now) c.args.l (length c.args.text.now) (number (goal.at.returns c).After-at)).baseline in
+    let there = (accepted-label (one_row c.args.s) (length c.args.words.now) c.args.l (length c.args.text.now)
+    (number (goal.at.returns c).After-at)).baseline in
     c.paint_text.ensures.panel
-    ∙ ap₂ (λ (k : Stroke) (p : Pen). on_panel (label_effect (face_from c.args.v c.args.font.now) k p c.args.text.now) k c.args.words.now) (stroke (goal.at.returns c).After-at) (start_is (goal.at.returns c).After-at)
-    ∙ row-painted (face_from c.args.v c.args.font.now) c.args.s c.args.l c.args.text.now c.args.row c.args.words.now small (number (goal.at.returns c).After-at) there
+    ∙ ap₂ (λ (k : Stroke) (p : Pen). on_panel (label_effect (face_from c.args.v c.args.font.now) k p c.args.text.now) k c.args.words.now)
+    (stroke (goal.at.returns c).After-at) (start_is (goal.at.returns c).After-at)
+    ∙ row-painted (face_from c.args.v c.args.font.now) c.args.s c.args.l c.args.text.now c.args.row c.args.words.now small
+    (number (goal.at.returns c).After-at) there

@@ -15,8 +15,10 @@ use Rattle.paint.proofs.paint_text.Given as goal
 abbrev pub invariant-loop-i : goal.invariant-loop-i
 invariant-loop-i l =
     (l.i ≤ length l.text) × (length l.panel ≡ length l.initial.panel) × AllWords l.panel
-    × (drawn whole (face_from l.v l.font) l.k l.initial.pen l.text l.initial.panel ≡ drawn whole (face_from l.v l.font) l.k l.pen (drop l.i l.text) l.panel)
-    × (pen_along (steps_of (face_from l.v l.font)) l.initial.pen l.text ≡ pen_along (steps_of (face_from l.v l.font)) l.pen (drop l.i l.text))
+    × (drawn whole (face_from l.v l.font) l.k l.initial.pen l.text l.initial.panel
+    ≡ drawn whole (face_from l.v l.font) l.k l.pen (drop l.i l.text) l.panel)
+    × (pen_along (steps_of (face_from l.v l.font)) l.initial.pen l.text
+    ≡ pen_along (steps_of (face_from l.v l.font)) l.pen (drop l.i l.text))
     × Gone l.initial.pen l.pen l.i
 
 abbrev pub decreases-loop-i : goal.decreases-loop-i

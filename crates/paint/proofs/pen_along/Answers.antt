@@ -13,9 +13,11 @@ pub loop-i-init : goal.loop-i-init
 loop-i-init c = (omega arith, refl, gone-nowhere _)
 
 near : (b : At-loop-i) → Near b.loop-i.pen
-near b = gone-near _ b.loop-i.pen b.loop-i.i (length b.args.text.now) b.requires.starting b.requires.text_len_bound b.loop-i.invariant.0 b.loop-i.invariant.2
+near b = gone-near _ b.loop-i.pen b.loop-i.i (length b.args.text.now) b.requires.starting b.requires.text_len_bound b.loop-i.invariant.0
+    b.loop-i.invariant.2
 
-glyph : (shown : After-found) → shown.found.result ≡ (face_from shown.args.v shown.args.font.now).glyph (get_or shown.args.text.now shown.loop-i.i 0)
+glyph : (shown : After-found) → shown.found.result
+    ≡ (face_from shown.args.v shown.args.font.now).glyph (get_or shown.args.text.now shown.loop-i.i 0)
 glyph shown =
     tabled-glyph shown.args.v shown.args.font.now _ _ shown.found.ensures
     shown.bitmaps-bitmaps.ensures shown.code.ensures
@@ -30,11 +32,17 @@ loop-i-preserved c =
     let i = c.loop-i.i in
     let pen = c.loop-i.pen in
     let next = c.after-pen.result in
-    let moved = c.after-pen.ensures.value ∙ ap (pen_after pen) (c.step.ensures ∙ ap step_of (glyph (goal.at.loop-i-preserved c).After-found)) in (
+    let moved = c.after-pen.ensures.value ∙ ap (pen_after pen)
+    (c.step.ensures ∙ ap step_of (glyph (goal.at.loop-i-preserved c).After-found)) in (
       omega arith,
       c.loop-i.invariant.1 ∙ along-turn (steps_of (face_from c.args.v c.args.font.now)) c.args.text.now i pen next (omega arith) moved,
       gone-on _ pen next i c.loop-i.invariant.2 c.after-pen.ensures.near,
     )
 
 pub returns : goal.returns
-returns c = record { value = sym (c.loop-i.invariant.1 ∙ along-done (steps_of (face_from c.args.v c.args.font.now)) c.args.text.now c.loop-i.i c.loop-i.pen (omega arith)); near = near (goal.at.returns c).At-loop-i }
+returns c = record {
+  value = sym (c.loop-i.invariant.1
+      ∙ along-done (steps_of (face_from c.args.v c.args.font.now)) c.args.text.now c.loop-i.i c.loop-i.pen (omega arith));
+  near =
+      near (goal.at.returns c).At-loop-i;
+}

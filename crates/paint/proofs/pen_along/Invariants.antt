@@ -11,7 +11,8 @@ use Rattle.paint.proofs.pen_along.Given as goal
 abbrev pub invariant-loop-i : goal.invariant-loop-i
 invariant-loop-i l =
     (l.i ≤ length l.text)
-    × (pen_along (steps_of (face_from l.v l.font)) l.initial.pen l.text ≡ pen_along (steps_of (face_from l.v l.font)) l.pen (drop l.i l.text))
+    × (pen_along (steps_of (face_from l.v l.font)) l.initial.pen l.text
+    ≡ pen_along (steps_of (face_from l.v l.font)) l.pen (drop l.i l.text))
     × Gone l.initial.pen l.pen l.i
 
 abbrev pub decreases-loop-i : goal.decreases-loop-i

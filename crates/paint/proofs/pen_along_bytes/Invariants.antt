@@ -10,7 +10,8 @@ use Rattle.paint.proofs.pen_along_bytes.Given as goal
 abbrev pub invariant-loop-i : goal.invariant-loop-i
 invariant-loop-i l =
     (l.i ≤ length l.text)
-    × (pen_along (spelt_steps l.h l.pointers l.widths l.dummy) l.initial.pen l.text ≡ pen_along (spelt_steps l.h l.pointers l.widths l.dummy) l.pen (drop l.i l.text))
+    × (pen_along (spelt_steps l.h l.pointers l.widths l.dummy) l.initial.pen l.text
+    ≡ pen_along (spelt_steps l.h l.pointers l.widths l.dummy) l.pen (drop l.i l.text))
     × Gone l.initial.pen l.pen l.i
 
 abbrev pub decreases-loop-i : goal.decreases-loop-i

@@ -20,7 +20,8 @@ loop-w-preserved c =
     let own = mode_of c.args.mode in
     let less = c.loop-w-test.true in
     let marks = marks-before c.args.font.now c.args.r own c.args.from w c.loop-w.mask _ c.loop-w.invariant.3 c.dots_from.ensures less in
-    let on-keep = word_more c.args.font.now c.args.r (mode_of 1) c.args.from c.args.at w _ _ _ _ c.loop-w.invariant.4 marks c.mark-in-loop-w.ensures in
+    let on-keep = word_more c.args.font.now c.args.r (mode_of 1) c.args.from c.args.at w _ _ _ _ c.loop-w.invariant.4 marks
+    c.mark-in-loop-w.ensures in
     let on-flip = word_more c.args.font.now c.args.r own c.args.from c.args.at w _ _ _ _ c.loop-w.invariant.5 marks c.mark.ensures in (
       omega arith,
       row_room c.args.font.now c.args.r (mode_of 1) c.args.from c.args.at (w + 1) _ _ on-keep,
@@ -39,7 +40,8 @@ returns c =
     let own = mode_of c.args.mode in
     let there : w ≡ c.args.r.last = omega arith in
     let marks =
-    marks-wide c.args.font.now c.args.r own c.args.from w c.loop-w.mask _ c.loop-w.invariant.3 c.dots_from-2.ensures there c.requires.last_bound.1
+    marks-wide c.args.font.now c.args.r own c.args.from w c.loop-w.mask _ c.loop-w.invariant.3 c.dots_from-2.ensures there
+    c.requires.last_bound.1
     in record {
       keep = word_more c.args.font.now c.args.r (mode_of 1) c.args.from c.args.at w _ _ _ _ c.loop-w.invariant.4 marks c.mark-3.ensures
           ∙ ap (λ (n : ℕ). row_drawn c.args.font.now c.args.r (mode_of 1) c.args.from c.args.at (n + 1) c.args.keep.now) there;

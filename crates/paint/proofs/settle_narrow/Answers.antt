@@ -32,7 +32,8 @@ low b less = row_at b.args.r _ _ _ b.loop-row.invariant.1 less _ b.requires.with
 
 in-file : (b : At-loop-row) → (less : b.loop-row.row < b.args.r.rows) → b.loop-row.from + 1 < length b.args.font.now
 in-file b less =
-    let here = row-in-file b.args.r _ _ _ b.loop-row.invariant.1 less _ (span-tests b.args.r 0 (length b.args.font.now) b.requires.font_value).1 in
+    let here = row-in-file b.args.r _ _ _ b.loop-row.invariant.1 less _
+    (span-tests b.args.r 0 (length b.args.font.now) b.requires.font_value).1 in
     omega (arith, (alone b))
 
 less : (c : After-mark-in-loop-row) → c.loop-row.row < c.args.r.rows
@@ -43,8 +44,11 @@ loop-row-init c = (omega arith, at-first-row c.args.r, nothing-drawn _ _ _ _, no
 
 pub dots_from-requires : goal.dots_from-requires
 dots_from-requires c =
-    let taken = c.loop-row-test.true in
-    (omega (arith, far (goal.at.dots_from-requires c).At-loop-row taken), c.requires.within.7, in-file (goal.at.dots_from-requires c).At-loop-row taken)
+    let taken = c.loop-row-test.true in (
+      omega (arith, far (goal.at.dots_from-requires c).At-loop-row taken),
+      c.requires.within.7,
+      in-file (goal.at.dots_from-requires c).At-loop-row taken,
+    )
 
 pub mark-requires : goal.mark-requires
 mark-requires c = in-flip (goal.at.mark-requires c).At-loop-row c.loop-row-test.true
@@ -53,7 +57,11 @@ pub mark-requires-in-loop-row : goal.mark-requires-in-loop-row
 mark-requires-in-loop-row c = in-keep (goal.at.mark-requires-in-loop-row c).At-loop-row c.loop-row-test.true
 
 pub overflow_add-from : goal.overflow_add-from
-overflow_add-from c = omega (arith, far (goal.at.overflow_add-from c).At-loop-row (less (goal.at.overflow_add-from c).After-mark-in-loop-row))
+overflow_add-from c = omega (
+  arith,
+  far (goal.at.overflow_add-from c).At-loop-row
+      (less (goal.at.overflow_add-from c).After-mark-in-loop-row),
+)
 
 pub overflow_add-at : goal.overflow_add-at
 overflow_add-at c = omega (arith, low (goal.at.overflow_add-at c).At-loop-row (less (goal.at.overflow_add-at c).After-mark-in-loop-row))
@@ -64,9 +72,16 @@ loop-row-preserved c =
     let read = c.dots_from.ensures in (
       omega (arith, less (goal.at.loop-row-preserved c).After-mark-in-loop-row),
       at-next-row c.args.r c.loop-row.row _ _ here,
-      narrow-more c.args.font.now c.args.r (mode_of 1) _ _ _ _ _ _ _ here c.loop-row.invariant.2 read (alone (goal.at.loop-row-preserved c).At-loop-row) c.mark-in-loop-row.ensures,
-      narrow-more c.args.font.now c.args.r (mode_of c.args.mode) _ _ _ _ _ _ _ here c.loop-row.invariant.3 read (alone (goal.at.loop-row-preserved c).At-loop-row) c.mark.ensures,
+      narrow-more c.args.font.now c.args.r (mode_of 1) _ _ _ _ _ _ _ here c.loop-row.invariant.2 read
+          (alone (goal.at.loop-row-preserved c).At-loop-row) c.mark-in-loop-row.ensures,
+      narrow-more c.args.font.now c.args.r (mode_of c.args.mode) _ _ _ _ _ _ _ here c.loop-row.invariant.3 read
+          (alone (goal.at.loop-row-preserved c).At-loop-row) c.mark.ensures,
     )
 
 pub returns : goal.returns
-returns c = let there : c.loop-row.row ≡ c.args.r.rows = omega arith in record { keep = c.loop-row.invariant.2 ∙ ap (λ (n : ℕ). rows_drawn c.args.font.now c.args.r (mode_of 1) n c.args.keep.now) there; flip = c.loop-row.invariant.3 ∙ ap (λ (n : ℕ). rows_drawn c.args.font.now c.args.r (mode_of c.args.mode) n c.args.flip.now) there }
+returns c = let there : c.loop-row.row ≡ c.args.r.rows = omega arith in
+    record {
+      keep = c.loop-row.invariant.2 ∙ ap (λ (n : ℕ). rows_drawn c.args.font.now c.args.r (mode_of 1) n c.args.keep.now) there;
+      flip =
+          c.loop-row.invariant.3 ∙ ap (λ (n : ℕ). rows_drawn c.args.font.now c.args.r (mode_of c.args.mode) n c.args.flip.now) there;
+    }

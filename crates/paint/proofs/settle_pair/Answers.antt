@@ -28,7 +28,8 @@ low : (b : At-loop-row) → (less : b.loop-row.row < b.args.r.rows) → b.loop-r
 low b less = row_at b.args.r _ _ _ b.loop-row.invariant.1 less _ b.requires.within
 
 in-file : (b : At-loop-row) → (less : b.loop-row.row < b.args.r.rows) → b.loop-row.from + b.args.r.last + 1 < length b.args.font.now
-in-file b less = row-in-file b.args.r _ _ _ b.loop-row.invariant.1 less _ (span-tests b.args.r 1 (length b.args.font.now) b.requires.font_value).1
+in-file b less = row-in-file b.args.r _ _ _ b.loop-row.invariant.1 less _
+    (span-tests b.args.r 1 (length b.args.font.now) b.requires.font_value).1
 
 less : (c : After-settle_two) → c.loop-row.row < c.args.r.rows
 less c = c.loop-row-test.true
@@ -39,7 +40,19 @@ loop-row-init c = (omega arith, at-first-row c.args.r, nothing-drawn _ _ _ _, no
 pub settle_two-requires : goal.settle_two-requires
 settle_two-requires c =
     let taken = c.loop-row-test.true in
-    record { last_in_bounds = (in-keep (goal.at.settle_two-requires c).At-loop-row taken, in-flip (goal.at.settle_two-requires c).At-loop-row taken, omega (arith, low (goal.at.settle_two-requires c).At-loop-row taken), (span-tests c.args.r 1 (length c.args.font.now) c.requires.font_value).0); from_bound = (omega (arith, far (goal.at.settle_two-requires c).At-loop-row taken), c.requires.within.7, in-file (goal.at.settle_two-requires c).At-loop-row taken) }
+    record {
+      last_in_bounds = (
+        in-keep (goal.at.settle_two-requires c).At-loop-row taken,
+        in-flip (goal.at.settle_two-requires c).At-loop-row taken,
+        omega (arith, low (goal.at.settle_two-requires c).At-loop-row taken),
+        (span-tests c.args.r 1 (length c.args.font.now) c.requires.font_value).0,
+      );
+      from_bound = (
+        omega (arith, far (goal.at.settle_two-requires c).At-loop-row taken),
+        c.requires.within.7,
+        in-file (goal.at.settle_two-requires c).At-loop-row taken,
+      );
+    }
 
 pub overflow_add-from : goal.overflow_add-from
 overflow_add-from c = omega (arith, far (goal.at.overflow_add-from c).At-loop-row (less (goal.at.overflow_add-from c).After-settle_two))
@@ -57,4 +70,9 @@ loop-row-preserved c =
     )
 
 pub returns : goal.returns
-returns c = let there : c.loop-row.row ≡ c.args.r.rows = omega arith in record { keep = c.loop-row.invariant.2 ∙ ap (λ (n : ℕ). rows_drawn c.args.font.now c.args.r (mode_of 1) n c.args.keep.now) there; flip = c.loop-row.invariant.3 ∙ ap (λ (n : ℕ). rows_drawn c.args.font.now c.args.r (mode_of c.args.mode) n c.args.flip.now) there }
+returns c = let there : c.loop-row.row ≡ c.args.r.rows = omega arith in
+    record {
+      keep = c.loop-row.invariant.2 ∙ ap (λ (n : ℕ). rows_drawn c.args.font.now c.args.r (mode_of 1) n c.args.keep.now) there;
+      flip =
+          c.loop-row.invariant.3 ∙ ap (λ (n : ℕ). rows_drawn c.args.font.now c.args.r (mode_of c.args.mode) n c.args.flip.now) there;
+    }

@@ -39,7 +39,20 @@ loop-row-init c = (omega arith, at-first-row c.args.r, nothing-drawn _ _ _ _, no
 pub settle_line-requires : goal.settle_line-requires
 settle_line-requires c =
     let taken = c.loop-row-test.true in
-    let within = c.requires.within in record { last_in_bounds = (in-keep (goal.at.settle_line-requires c).At-loop-row taken, in-flip (goal.at.settle_line-requires c).At-loop-row taken, omega (arith, low (goal.at.settle_line-requires c).At-loop-row taken)); last_bound = (within.0.2, within.1); from_bound = (omega (arith, far (goal.at.settle_line-requires c).At-loop-row taken), within.0.7, in-file (goal.at.settle_line-requires c).At-loop-row taken) }
+    let within = c.requires.within in
+    record {
+      last_in_bounds = (
+        in-keep (goal.at.settle_line-requires c).At-loop-row taken,
+        in-flip (goal.at.settle_line-requires c).At-loop-row taken,
+        omega (arith, low (goal.at.settle_line-requires c).At-loop-row taken),
+      );
+      last_bound = (within.0.2, within.1);
+      from_bound = (
+        omega (arith, far (goal.at.settle_line-requires c).At-loop-row taken),
+        within.0.7,
+        in-file (goal.at.settle_line-requires c).At-loop-row taken,
+      );
+    }
 
 pub overflow_add-from : goal.overflow_add-from
 overflow_add-from c = omega (arith, far (goal.at.overflow_add-from c).At-loop-row (less (goal.at.overflow_add-from c).After-settle_line))
@@ -57,4 +70,9 @@ loop-row-preserved c =
     )
 
 pub returns : goal.returns
-returns c = let there : c.loop-row.row ≡ c.args.r.rows = omega arith in record { keep = c.loop-row.invariant.2 ∙ ap (λ (n : ℕ). rows_drawn c.args.font.now c.args.r (mode_of 1) n c.args.keep.now) there; flip = c.loop-row.invariant.3 ∙ ap (λ (n : ℕ). rows_drawn c.args.font.now c.args.r (mode_of c.args.mode) n c.args.flip.now) there }
+returns c = let there : c.loop-row.row ≡ c.args.r.rows = omega arith in
+    record {
+      keep = c.loop-row.invariant.2 ∙ ap (λ (n : ℕ). rows_drawn c.args.font.now c.args.r (mode_of 1) n c.args.keep.now) there;
+      flip =
+          c.loop-row.invariant.3 ∙ ap (λ (n : ℕ). rows_drawn c.args.font.now c.args.r (mode_of c.args.mode) n c.args.flip.now) there;
+    }

@@ -21,7 +21,8 @@ loop-i-preserved c =
     let applied = c.apply.ensures ∙ ap (λ (e : Effect). apply_to e (word panel i)) c.new.ensures in (
       omega arith,
       length-set panel i c.apply.result ∙ c.loop-i.invariant.1,
-      altered-next i c.apply.result (effect_at (sheet_of c.args.keep.now c.args.flip.now)) panel c.args.panel.now c.loop-i.invariant.2 applied,
+      altered-next i c.apply.result (effect_at (sheet_of c.args.keep.now c.args.flip.now)) panel c.args.panel.now c.loop-i.invariant.2
+          applied,
     )
 
 pub shape_of-panel : goal.shape_of-panel

@@ -32,8 +32,10 @@ room c =
 
 pub returns-then-bad_panel : goal.returns-then-bad_panel
 unfolding fresh_number fresh_after
-returns-then-bad_panel c = let n = bad-slices c.args.s (lengths (sheet_of c.args.keep.now c.args.flip.now)) (sym (bad-is (goal.at.returns-then-bad_panel c).After-bad_panel) ∙ c.if-bad_panel.true) in
-    let stays = refused-by-8 (fresh_number c.args.s (sheet_of c.args.keep.now c.args.flip.now)) _ (sheet_of c.args.keep.now c.args.flip.now) n in
+returns-then-bad_panel c = let n = bad-slices c.args.s (lengths (sheet_of c.args.keep.now c.args.flip.now))
+    (sym (bad-is (goal.at.returns-then-bad_panel c).After-bad_panel) ∙ c.if-bad_panel.true) in
+    let stays = refused-by-8 (fresh_number c.args.s (sheet_of c.args.keep.now c.args.flip.now)) _ (sheet_of c.args.keep.now c.args.flip.now)
+    n in
     record { value = n; keep = (slices _ _ stays).0; flip = (slices _ _ stays).1 }
 
 pub fill-requires : goal.fill-requires
@@ -50,7 +52,15 @@ pub returns : goal.returns
 unfolding fresh_number fresh_after written
 returns c =
     let words = c.panel_words-n.ensures in
-    let n = good-slices c.args.s (lengths (sheet_of c.args.keep.now c.args.flip.now)) (sym (bad-is (goal.at.returns c).After-bad_panel) ∙ c.if-bad_panel.false) in
-    let made = slices _ _ (done (fresh_number c.args.s (sheet_of c.args.keep.now c.args.flip.now)) _ (sheet_of c.args.keep.now c.args.flip.now) n) in
+    let n = good-slices c.args.s (lengths (sheet_of c.args.keep.now c.args.flip.now))
+    (sym (bad-is (goal.at.returns c).After-bad_panel) ∙ c.if-bad_panel.false) in
+    let made = slices _ _ (done (fresh_number c.args.s (sheet_of c.args.keep.now c.args.flip.now)) _
+    (sheet_of c.args.keep.now c.args.flip.now) n) in
     let kept = ap (λ (e : Effect). e.keep) c.identity-idle.ensures in
-    let flipped = ap (λ (e : Effect). e.flip) c.identity-idle.ensures in record { value = n; keep = c.fill.ensures ∙ ap₂ (λ (m w : ℕ). over m (λ i. w) c.args.keep.now) words kept ∙ made.0; flip = c.fill-2.ensures ∙ ap₂ (λ (m w : ℕ). over m (λ i. w) c.args.flip.now) words flipped ∙ made.1 }
+    let flipped = ap (λ (e : Effect). e.flip) c.identity-idle.ensures in
+    record {
+      value = n;
+      keep = c.fill.ensures ∙ ap₂ (λ (m w : ℕ). over m (λ i. w) c.args.keep.now) words kept ∙ made.0;
+      flip =
+          c.fill-2.ensures ∙ ap₂ (λ (m w : ℕ). over m (λ i. w) c.args.flip.now) words flipped ∙ made.1;
+    }

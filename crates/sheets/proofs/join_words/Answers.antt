@@ -22,15 +22,23 @@ words b = b.panel_words-n.ensures
 pub loop-i-preserved : goal.loop-i-preserved
 loop-i-preserved c =
     let i = c.loop-i.i in
-    let kept = ap (λ (q : List ℕ). word q i) c.loop-i.invariant.3 ∙ over-past i (λ j. ((λ (j : ℕ). join_of (effect_at (sheet_of c.args.keep.now c.args.flip.now) j) (effect_at (sheet_of c.args.keep2.now c.args.flip2.now) j)) j).keep) c.args.keep.now i (omega arith) in
-    let flipped = ap (λ (q : List ℕ). word q i) c.loop-i.invariant.4 ∙ over-past i (λ j. ((λ (j : ℕ). join_of (effect_at (sheet_of c.args.keep.now c.args.flip.now) j) (effect_at (sheet_of c.args.keep2.now c.args.flip2.now) j)) j).flip) c.args.flip.now i (omega arith) in
+    let kept = ap (λ (q : List ℕ). word q i) c.loop-i.invariant.3
+    ∙ over-past i (λ j. ((λ (j : ℕ). join_of (effect_at (sheet_of c.args.keep.now c.args.flip.now) j)
+    (effect_at (sheet_of c.args.keep2.now c.args.flip2.now) j)) j).keep) c.args.keep.now i (omega arith) in
+    let flipped = ap (λ (q : List ℕ). word q i) c.loop-i.invariant.4
+    ∙ over-past i (λ j. ((λ (j : ℕ). join_of (effect_at (sheet_of c.args.keep.now c.args.flip.now) j)
+    (effect_at (sheet_of c.args.keep2.now c.args.flip2.now) j)) j).flip) c.args.flip.now i (omega arith) in
     let first = c.new.ensures ∙ ap₂ effect kept flipped in
     let joined = c.join-joined.ensures ∙ ap₂ join_of first c.new-then.ensures in (
       omega arith,
       length-set c.loop-i.keep i c.join-joined.result.keep ∙ c.loop-i.invariant.1,
       length-set c.loop-i.flip i c.join-joined.result.flip ∙ c.loop-i.invariant.2,
-      over-step i _ (λ j. ((λ (j : ℕ). join_of (effect_at (sheet_of c.args.keep.now c.args.flip.now) j) (effect_at (sheet_of c.args.keep2.now c.args.flip2.now) j)) j).keep) c.loop-i.keep c.args.keep.now c.loop-i.invariant.3 (ap (λ (e : Effect). e.keep) joined),
-      over-step i _ (λ j. ((λ (j : ℕ). join_of (effect_at (sheet_of c.args.keep.now c.args.flip.now) j) (effect_at (sheet_of c.args.keep2.now c.args.flip2.now) j)) j).flip) c.loop-i.flip c.args.flip.now c.loop-i.invariant.4 (ap (λ (e : Effect). e.flip) joined),
+      over-step i _ (λ j. ((λ (j : ℕ). join_of (effect_at (sheet_of c.args.keep.now c.args.flip.now) j)
+          (effect_at (sheet_of c.args.keep2.now c.args.flip2.now) j)) j).keep) c.loop-i.keep c.args.keep.now c.loop-i.invariant.3
+          (ap (λ (e : Effect). e.keep) joined),
+      over-step i _ (λ j. ((λ (j : ℕ). join_of (effect_at (sheet_of c.args.keep.now c.args.flip.now) j)
+          (effect_at (sheet_of c.args.keep2.now c.args.flip2.now) j)) j).flip) c.loop-i.flip c.args.flip.now c.loop-i.invariant.4
+          (ap (λ (e : Effect). e.flip) joined),
     )
 
 pub shape_of-keep : goal.shape_of-keep

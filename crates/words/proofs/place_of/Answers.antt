@@ -34,10 +34,12 @@ read_back : (c : Else-x-gt1023) → to_z w32 (of_z w32 (to_z w32 (of_z w32 c.arg
 read_back c = rw (sum c) (to_z-of_z (small (place_of c.args.x) (within c).1))
 
 pub overflow_add-result : goal.overflow_add-result
-overflow_add-result c = rw (sum (goal.at.overflow_add-result c).Else-x-gt1023) (small (place_of c.args.x) (within (goal.at.overflow_add-result c).Else-x-gt1023).1)
+overflow_add-result c = rw (sum (goal.at.overflow_add-result c).Else-x-gt1023)
+    (small (place_of c.args.x) (within (goal.at.overflow_add-result c).Else-x-gt1023).1)
 
 pub overflow_cast-result : goal.overflow_cast-result
-overflow_cast-result c = rw (read_back (goal.at.overflow_cast-result c).Else-x-gt1023) (tt, omega (arith, (within (goal.at.overflow_cast-result c).Else-x-gt1023).1))
+overflow_cast-result c = rw (read_back (goal.at.overflow_cast-result c).Else-x-gt1023)
+    (tt, omega (arith, (within (goal.at.overflow_cast-result c).Else-x-gt1023).1))
 
 pub returns : goal.returns
 returns c = ap nat_abs (read_back (goal.at.returns c).Else-x-gt1023)

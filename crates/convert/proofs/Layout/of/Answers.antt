@@ -23,7 +23,8 @@ pub overflow_add-codes : goal.overflow_add-codes
 overflow_add-codes c = let few = (small (goal.at.overflow_add-codes c).After-past-codes).1.0 in omega arith
 
 pub columns_before-requires : goal.columns_before-requires
-columns_before-requires c = let first = (small (goal.at.columns_before-requires c).After-past-codes).0 in let few = (small (goal.at.columns_before-requires c).After-past-codes).1.0 in (omega arith, omega arith)
+columns_before-requires c = let first = (small (goal.at.columns_before-requires c).After-past-codes).0 in
+    let few = (small (goal.at.columns_before-requires c).After-past-codes).1.0 in (omega arith, omega arith)
 
 pub overflow_add-columns : goal.overflow_add-columns
 overflow_add-columns c = let few = (small (goal.at.overflow_add-columns c).After-past-codes).1.0 in omega arith
@@ -54,4 +55,12 @@ returns c =
     let before : ℕ → ℕ → ℕ = λ m n. sum_below n (λ i. columns_at c.args.cu.now (word c.args.places.now (m + i))) in
     let columns = ap (λ (n : ℕ). n + c.args.frame.fbbdx) (c.columns_before.ensures.value ∙ ap₂ before first codes) in
     let raster = ap (λ (n : ℕ). (n + 15) / 16) columns in
-    λ i. record { min = first i; max = c.max_code-max.ensures i; codes = codes i; columns = columns i; raster = raster i; rows = c.args.frame.ascent + c.args.frame.descent }
+    λ i. record {
+      min = first i;
+      max = c.max_code-max.ensures i;
+      codes = codes i;
+      columns = columns i;
+      raster = raster i;
+      rows =
+          c.args.frame.ascent + c.args.frame.descent;
+    }

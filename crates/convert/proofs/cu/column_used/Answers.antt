@@ -23,8 +23,11 @@ overflow_add-place c = omega (arith, char-within c.args.cu.now c.loop-k.k (omega
 
 pub loop-k-preserved : goal.loop-k-preserved
 loop-k-preserved c =
-    let told = ap (λ (p : ℕ). dot_in_column c.args.cu.now p c.args.j) (sym c.loop-k.invariant.1) ∙ sym c.dot_in_column.ensures in
-    (omega arith, omega (arith, char-next c.args.cu.now c.loop-k.k), none_more _ c.loop-k.k c.loop-k.invariant.2 (told ∙ c.if-dot_in_column.false))
+    let told = ap (λ (p : ℕ). dot_in_column c.args.cu.now p c.args.j) (sym c.loop-k.invariant.1) ∙ sym c.dot_in_column.ensures in (
+      omega arith,
+      omega (arith, char-next c.args.cu.now c.loop-k.k),
+      none_more _ c.loop-k.k c.loop-k.invariant.2 (told ∙ c.if-dot_in_column.false),
+    )
 
 pub returns : goal.returns
 unfolding column_used

@@ -8,7 +8,8 @@ use Rattle.convert.specs.Cu.{char_at, dot_in_column}
 use Rattle.convert.proofs.cu.column_used.Given as goal
 
 abbrev pub invariant-loop-k : goal.invariant-loop-k
-invariant-loop-k l = (l.k ≤ l.count) × (l.place ≡ char_at l.cu l.k) × (some_below l.k (λ (k : ℕ). dot_in_column l.cu (char_at l.cu k) l.j) ≡ false)
+invariant-loop-k l = (l.k ≤ l.count) × (l.place ≡ char_at l.cu l.k)
+    × (some_below l.k (λ (k : ℕ). dot_in_column l.cu (char_at l.cu k) l.j) ≡ false)
 
 abbrev pub decreases-loop-k : goal.decreases-loop-k
 decreases-loop-k l = l.count - l.k

@@ -25,6 +25,7 @@ pub returns : goal.returns
 unfolding raster_dot row_words
 returns c =
     let row : 2 + c.args.i * c.word_at.result + c.args.j / 16 ≡ 2 + c.args.i * word c.args.cu.now 1 + c.args.j / 16 = cc in
-    let at : c.args.place + (2 + c.args.i * word c.args.cu.now 1 + c.args.j / 16) ≡ c.args.place + 2 + c.args.i * word c.args.cu.now 1 + c.args.j / 16 = omega arith in
+    let at : c.args.place + (2 + c.args.i * word c.args.cu.now 1 + c.args.j / 16)
+    ≡ c.args.place + 2 + c.args.i * word c.args.cu.now 1 + c.args.j / 16 = omega arith in
     c.bit.ensures ∙ ap (λ (w : ℕ). bit_of w (c.args.j % 16)) (c.word_past.ensures
     ∙ ap (λ (k : ℕ). word c.args.cu.now k) (ap (λ (k : ℕ). c.args.place + k) row ∙ at))

@@ -14,7 +14,8 @@ loop-j-init c = (omega arith, refl)
 
 pub returns-then-dot-eq1 : goal.returns-then-dot-eq1
 unfolding first_in_row
-returns-then-dot-eq1 c = sym (first-here _ _ c.loop-j.j (omega arith) c.loop-j.invariant.1 (eq-eqb _ 1 (sym c.dot.ensures ∙ c.if-dot-eq1.true)))
+returns-then-dot-eq1 c = sym (first-here _ _ c.loop-j.j (omega arith) c.loop-j.invariant.1
+    (eq-eqb _ 1 (sym c.dot.ensures ∙ c.if-dot-eq1.true)))
 
 pub loop-j-preserved : goal.loop-j-preserved
 loop-j-preserved c = (omega arith, none_more _ c.loop-j.j c.loop-j.invariant.1 (ne_eqb _ 1 (λ h. c.if-dot-eq1.false (c.dot.ensures ∙ h))))

@@ -13,7 +13,12 @@ loop-j-init c = (omega arith, refl)
 
 pub returns-then-dot_in_column : goal.returns-then-dot_in_column
 unfolding left_of
-returns-then-dot_in_column c = record { value = sym (first-here _ _ c.loop-j.j (omega arith) c.loop-j.invariant.1 (sym c.dot_in_column.ensures ∙ c.if-dot_in_column.true)); small = omega arith }
+returns-then-dot_in_column c = record {
+  value =
+      sym (first-here _ _ c.loop-j.j (omega arith) c.loop-j.invariant.1 (sym c.dot_in_column.ensures ∙ c.if-dot_in_column.true));
+  small =
+      omega arith;
+}
 
 pub loop-j-preserved : goal.loop-j-preserved
 loop-j-preserved c = (omega arith, none_more _ c.loop-j.j c.loop-j.invariant.1 (sym c.dot_in_column.ensures ∙ c.if-dot_in_column.false))

@@ -13,7 +13,8 @@ loop-j-init c = (omega arith, refl)
 
 pub returns-then-column_used : goal.returns-then-column_used
 unfolding leftmost
-returns-then-column_used c = sym (first-here _ _ c.loop-j.j (omega arith) c.loop-j.invariant.1 (sym c.column_used.ensures ∙ c.if-column_used.true))
+returns-then-column_used c = sym (first-here _ _ c.loop-j.j (omega arith) c.loop-j.invariant.1
+    (sym c.column_used.ensures ∙ c.if-column_used.true))
 
 pub loop-j-preserved : goal.loop-j-preserved
 loop-j-preserved c = (omega arith, none_more _ c.loop-j.j c.loop-j.invariant.1 (sym c.column_used.ensures ∙ c.if-column_used.false))

@@ -11,10 +11,19 @@ loop-j-init c = (omega arith, ap (λ (n : ℕ). last_below n (dot_in_column c.ar
 
 pub returns-then-dot_in_column : goal.returns-then-dot_in_column
 unfolding right_of
-returns-then-dot_in_column c = record { value = last_found _ _ c.loop-j.j (omega arith) c.loop-j.invariant.1 (sym c.dot_in_column.ensures ∙ c.if-dot_in_column.true); small = omega arith }
+returns-then-dot_in_column c = record {
+  value =
+      last_found _ _ c.loop-j.j (omega arith) c.loop-j.invariant.1 (sym c.dot_in_column.ensures ∙ c.if-dot_in_column.true);
+  small =
+      omega arith;
+}
 
 pub loop-j-preserved : goal.loop-j-preserved
-loop-j-preserved c = (omega arith, last-goes-down _ _ c.loop-j.j (omega arith) c.loop-j.invariant.1 (sym c.dot_in_column.ensures ∙ c.if-dot_in_column.false))
+loop-j-preserved c = (
+  omega arith,
+  last-goes-down _ _ c.loop-j.j (omega arith) c.loop-j.invariant.1
+      (sym c.dot_in_column.ensures ∙ c.if-dot_in_column.false),
+)
 
 pub returns : goal.returns
 unfolding right_of

@@ -14,4 +14,8 @@ pub overflow_mul-result : goal.overflow_mul-result
 overflow_mul-result c = omega (arith, product (goal.at.overflow_mul-result c).After-height)
 
 pub returns : goal.returns
-returns c = record { value = ap (λ (n : ℕ). c.args.self.raster * n) c.height.ensures.value; small = product (goal.at.returns c).After-height }
+returns c = record {
+  value = ap (λ (n : ℕ). c.args.self.raster * n) c.height.ensures.value;
+  small =
+      product (goal.at.returns c).After-height;
+}

@@ -8,4 +8,9 @@ use Rattle.fonts.proofs.Name.of.Goals as goal
 
 pub returns : goal.returns
 unfolding name_of
-returns c = let entry = c.args.entry in record { value = (λ i. record { missing = eqb (c.bit.ensures i) 1; body = entry / 256 % 128; code = entry % 256 }); small = (omega arith, omega arith) }
+returns c = let entry = c.args.entry in
+    record {
+      value = (λ i. record { missing = eqb (c.bit.ensures i) 1; body = entry / 256 % 128; code = entry % 256 });
+      small =
+          (omega arith, omega arith);
+    }

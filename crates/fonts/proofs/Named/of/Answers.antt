@@ -23,7 +23,8 @@ high m = le-leb m.args.code m.args.h.max m.if-h-code.false
 own_is : (m : After-marked) → m.at-own.result ≡ named_at m.args.map.now m.args.widths.now (m.args.code - m.args.h.min) false
 own_is m = m.at-own.ensures
 
-marked-is : (m : After-marked) → marked m.args.h (name_of (word m.args.map.now (m.args.code - m.args.h.min))).missing (word m.args.widths.now (m.args.code - m.args.h.min)) ≡ m.marked.result
+marked-is : (m : After-marked) → marked m.args.h (name_of (word m.args.map.now (m.args.code - m.args.h.min))).missing
+    (word m.args.widths.now (m.args.code - m.args.h.min)) ≡ m.marked.result
 marked-is m =
     sym
     (m.marked.ensures
@@ -47,9 +48,18 @@ returns-then-h-code c =
 pub returns-then-marked : goal.returns-then-marked
 unfolding named_in in_range
 returns-then-marked c =
-    rw (low (goal.at.returns-then-marked c).After-marked, high (goal.at.returns-then-marked c).After-marked, marked-is (goal.at.returns-then-marked c).After-marked ∙ c.if-marked.true)
+    rw (
+      low (goal.at.returns-then-marked c).After-marked,
+      high (goal.at.returns-then-marked c).After-marked,
+      marked-is (goal.at.returns-then-marked c).After-marked ∙ c.if-marked.true,
+    )
     (c.at-then-marked.ensures ∙ ap (λ (k : ℕ). named_at c.args.map.now c.args.widths.now k true) c.codes-then-marked.ensures)
 
 pub returns : goal.returns
 unfolding named_in in_range
-returns c = rw (low (goal.at.returns c).After-marked, high (goal.at.returns c).After-marked, marked-is (goal.at.returns c).After-marked ∙ c.if-marked.false) (own_is (goal.at.returns c).After-marked)
+returns c = rw (
+  low (goal.at.returns c).After-marked,
+  high (goal.at.returns c).After-marked,
+  marked-is (goal.at.returns c).After-marked
+      ∙ c.if-marked.false,
+) (own_is (goal.at.returns c).After-marked)

@@ -20,14 +20,19 @@ failed false t kept changed h = (rw h, rw h)
 pub returns-then-c-gt255 : goal.returns-then-c-gt255
 returns-then-c-gt255 c =
     let code = c.args.code in
-    let over : 255 < code = c.if-c-gt255.true in let both = held c.args.self.bad _ _ _ (rw (lt-ltb 255 code over)) in record { bad_value = both.0; places = both.1 }
+    let over : 255 < code = c.if-c-gt255.true in let both = held c.args.self.bad _ _ _ (rw (lt-ltb 255 code over)) in
+    record { bad_value = both.0; places = both.1 }
 
 pub returns-then-self-c-gt0 : goal.returns-then-self-c-gt0
 returns-then-self-c-gt0 c =
     let within : c.args.code ≤ 255 = c.if-c-gt255.false in
-    let twice : 0 < word c.args.self.places c.args.code = c.if-self-c-gt0.true in let both = held c.args.self.bad _ _ _ (rw (le-ltb 255 c.args.code within, lt-ltb 0 (word c.args.self.places c.args.code) twice)) in record { bad_value = both.0; places = both.1 }
+    let twice : 0 < word c.args.self.places c.args.code = c.if-self-c-gt0.true in
+    let both = held c.args.self.bad _ _ _ (rw (le-ltb 255 c.args.code within, lt-ltb 0 (word c.args.self.places c.args.code) twice)) in
+    record { bad_value = both.0; places = both.1 }
 
 pub returns : goal.returns
 returns c =
     let within : c.args.code ≤ 255 = c.if-c-gt255.false in
-    let once : word c.args.self.places c.args.code ≤ 0 = c.if-self-c-gt0.false in let both = failed c.args.self.bad _ _ _ (rw (le-ltb 255 c.args.code within, le-ltb 0 (word c.args.self.places c.args.code) once)) in record { bad_value = both.0; places = both.1 }
+    let once : word c.args.self.places c.args.code ≤ 0 = c.if-self-c-gt0.false in
+    let both = failed c.args.self.bad _ _ _ (rw (le-ltb 255 c.args.code within, le-ltb 0 (word c.args.self.places c.args.code) once)) in
+    record { bad_value = both.0; places = both.1 }
