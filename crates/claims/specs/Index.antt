@@ -15,7 +15,7 @@ use Rattle.fonts.specs.Reading.{font_number}
 use Rattle.claims.specs.Cases.{paints, gathers, applies, ends, small_font, shape as smallShape}
 use Rattle.claims.specs.Fonts.{Seen, shows, holds, replies, comes, picture, shown}
 use Rattle.claims.specs.Edges.{changed}
-use Rattle.claims.specs.Limits.{Row, reads, label_of, Flaw, flaw, cut_to, in_tables, put, over_codes, in_order}
+use Rattle.claims.specs.Limits.{Row, reads, label_of, Flaw, cut_to, in_tables, put, over_codes, in_order}
 use Rattle.claims.specs.Limits.{on_font, byte_too_many, asked_with, paint_flaws, measure_flaws, painted_by, measured_by}
 use Rattle.claims.specs.Counts.{Row as CountRow, does, refused_by, counts}
 

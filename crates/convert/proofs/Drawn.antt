@@ -11,7 +11,7 @@ use Rattle.words.specs.Place.{place_of_word}
 use Rattle.words.proofs.Tables.{table_at}
 use Rattle.words.proofs.Search.{some-here, last-le}
 use Rattle.convert.specs.Writing.{fbbdy}
-use Rattle.convert.specs.Cu.{rows, width, code_place, places_of, raster_dot, has_dot, lowest_of, first_in_row, left_of, right_of}
+use Rattle.convert.specs.Cu.{rows, width, code_place, places_of, raster_dot, has_dot, left_of, right_of}
 use Rattle.convert.specs.Cu.{columns_across, row_used, leftmost, top, bottom, frame_of, frame_from, left_from, drawing_of, drawing_from}
 use Rattle.convert.specs.Conversion.{cu_number}
 use Rattle.convert.specs.Shown.{origin_row, origin_column}

@@ -1,5 +1,5 @@
 -- The conversion of a CU file, its refusals, and the program: the paper's "Numbers returned", 20 to 27, and its last paragraph.
-use Rattle.std.specs.Prelude.{ℕ, ◌+◌, ◌≡◌, cond, List, [], ◌∷◌, ◌++◌, ltb, eqb, length, drop}
+use Rattle.std.specs.Prelude.{ℕ, ◌≡◌, cond, List, [], ◌∷◌, ◌++◌, ltb, eqb, length, drop}
 use Rattle.words.specs.Word.{words_of, bytes_of, odd_bytes}
 use Rattle.words.specs.Refusal.{first_of, or_else}
 use Rattle.convert.specs.declared.Conversion.{Conversion}

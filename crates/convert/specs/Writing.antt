@@ -1,5 +1,5 @@
 -- The KernedStrike file written from boxes and dots: the paper's "The file written". It does not ask where they come from.
-use Rattle.std.specs.Prelude.{ℕ, ◌+◌, ◌-◌, ◌*◌, ◌/◌, ◌%◌, Bool, cond, not, ◌&&◌, ◌||◌, List, [], ◌∷◌, ◌++◌, ltb, eqb, length}
+use Rattle.std.specs.Prelude.{ℕ, ◌+◌, ◌-◌, ◌*◌, ◌/◌, ◌%◌, Bool, cond, not, ◌&&◌, ◌||◌, List, [], ◌∷◌, ◌++◌, ltb, eqb}
 use Rattle.words.specs.Word.{word_of, table}
 use Rattle.words.specs.Refusal.{first_of}
 use Rattle.words.specs.Search.{some_below, first_below, last_below, sum_below, most_below}

@@ -1,13 +1,13 @@
 -- What an accepted font promises: the inverse of the tests that its bodies, its rows and its pictures' places rest on.
-use Prim.Native.Nat.{ℕ, zero, suc, ◌+◌, ◌*◌, ◌<◌, ◌≤◌, min}
-use mathlib.Core.Path.{◌≡◌, refl, sym, ap, ◌∙◌}
+use Prim.Native.Nat.{ℕ, zero, suc, ◌+◌, ◌<◌, ◌≤◌}
+use mathlib.Core.Path.{◌≡◌, refl}
 use mathlib.Core.Bool.{Bool, true, false, cond, not, ◌||◌, true≢false}
 use mathlib.Core.List.{List}
 use native.Mathlib.Omega.{arith}
 use lib.Dec.{eqb, ltb}
 use lib.ListN.{length}
 use borrow.Author.Tests.{eqb-true, eqb-false, ltb-true, ltb-false, le-ltb}
-use Rattle.words.specs.Refusal.{first_of, or_else, not_within}
+use Rattle.words.specs.Refusal.{first_of, not_within}
 use Rattle.words.proofs.Passed.{neither, passed, within, stages-passed}
 use Rattle.fonts.specs.declared.Header.{Header}
 use Rattle.fonts.specs.declared.Body.{Body}
@@ -15,7 +15,7 @@ use Rattle.fonts.specs.Strike.{header_of, view_of, index, codes, height, bitmap_
 use Rattle.fonts.specs.Strike.{bitmaps_of, strike_in, strike_by}
 use Rattle.fonts.specs.Reading.{too_short, bad_format, kerned_too_short, bad_codes, bad_count, bad_box, front_number}
 use Rattle.fonts.specs.Reading.{bad_sizes, wrong_length, wrong_end, head_number, body_number, bodies_number}
-use Rattle.fonts.specs.Reading.{table_number, number_by, font_number}
+use Rattle.fonts.specs.Reading.{number_by, font_number}
 use Rattle.fonts.proofs.Tabled.{strike-tabled}
 
 -- ---- the words before the bodies

@@ -2,7 +2,7 @@
 -- substitute; and no such file is refused by 7.
 use Prim.Native.Nat.{ℕ}
 use mathlib.Core.Path.{◌≡◌}
-use mathlib.Core.Bool.{false, cond, ◌&&◌, and-false}
+use mathlib.Core.Bool.{false, ◌&&◌, and-false}
 use mathlib.Core.List.{List}
 use mathlib.Core.Logic.{⊎_elim}
 use native.Mathlib.Omega.{arith}
@@ -11,7 +11,7 @@ use lib.ListN.{length}
 use borrow.Author.Tests.{lt-leb, eq-eqb}
 use Rattle.words.specs.Refusal.{first_of, or_else}
 use Rattle.fonts.specs.declared.Entry.{Entry}
-use Rattle.fonts.specs.Strike.{header_of, view_of, kerned, index, pointers_of, first_strike, strike_in, widths_of}
+use Rattle.fonts.specs.Strike.{header_of, view_of, kerned, index, strike_in}
 use Rattle.fonts.specs.Entry.{name_in, marked, struck, columns_of, advance_of}
 use Rattle.fonts.specs.Reading.{nameless, no_dummy, table_number, front_number, bodies_number, number_by, font_number}
 use Rattle.fonts.specs.Face.{in_range, picture_of, glyph_from, face_from, face_of}

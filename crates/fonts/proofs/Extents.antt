@@ -1,15 +1,14 @@
 -- The most rows that a body has: one body more, and every body has no more.
-use Prim.Native.Nat.{ℕ, zero, suc, ◌+◌, ◌-◌, ◌≤◌, max}
+use Prim.Native.Nat.{ℕ, suc, ◌+◌, ◌-◌, ◌≤◌, max}
 use mathlib.Core.Path.{◌≡◌, refl, sym, ap, ◌∙◌}
 use mathlib.Core.Bool.{Bool, true, false, cond}
 use mathlib.Core.List.{List}
 use native.Mathlib.Omega.{arith}
 use lib.Dec.{eqb, ltb}
-use borrow.Author.Tests.{ltb-true, ltb-false, eqb-true, eqb-false}
+use borrow.Author.Tests.{ltb-true, ltb-false, eqb-false}
 use Rattle.words.specs.Search.{most_below}
 use Rattle.words.proofs.Search.{most-more, most-here}
 use Rattle.fonts.specs.declared.Body.{Body}
-use Rattle.fonts.specs.declared.Strike.{Strike}
 use Rattle.fonts.specs.declared.View.{View}
 use Rattle.fonts.specs.Face.{picture_of, strike_named, place_of_code, glyph_by, glyph_from, face_from}
 use Rattle.fonts.specs.Entry.{name_in}

@@ -1,12 +1,11 @@
 -- What a font shows is found by the table of its bitmaps, whatever its kind.
-use Prim.Native.Nat.{ℕ, ◌+◌, ◌-◌, ◌/◌, ◌%◌, ◌<◌, ◌≤◌}
+use Prim.Native.Nat.{ℕ, ◌<◌, ◌≤◌}
 use mathlib.Core.Path.{◌≡◌, refl, sym, ◌∙◌}
 use mathlib.Core.Bool.{Bool, true, false, cond}
 use mathlib.Core.List.{List}
 use native.Mathlib.Omega.{arith}
 use lib.Dec.{eqb, ltb}
 use Rattle.words.specs.Word.{word}
-use Rattle.fonts.specs.declared.Header.{Header}
 use Rattle.fonts.specs.declared.Strike.{Strike}
 use Rattle.fonts.specs.declared.View.{View}
 use Rattle.fonts.specs.Strike.{index, codes, map_of, first_strike, body_start, strike_at, no_strike, bitmaps_of, strike_in, strike_by}
@@ -15,7 +14,7 @@ use Rattle.fonts.specs.Face.{picture_of, glyph_by, glyph_from}
 use Rattle.fonts.specs.Kinds.{mapped_place}
 use Rattle.fonts.proofs.Tabled.{strike-tabled}
 use Rattle.fonts.proofs.Struck.{struck-glyph}
-use Rattle.fonts.proofs.Mapped.{mapped, entry_mapped, mapped-glyph}
+use Rattle.fonts.proofs.Mapped.{entry_mapped, mapped-glyph}
 
 pub first_by : (v : View) (bitmaps ws : List ℕ) → strike_by v bitmaps ws 0 ≡ first_strike v
 unfolding strike_by

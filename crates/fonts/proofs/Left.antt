@@ -1,11 +1,11 @@
 -- Where a picture's left column goes, in the paper's whole numbers: FBBox + offset from the pen in a kerned font, the pen in a plain one.
-use Prim.Native.Nat.{ℕ, ◌+◌, ◌%◌, ◌/◌, ◌<◌, ◌≤◌}
-use mathlib.Core.Path.{◌≡◌, refl, sym, ap, ◌∙◌}
+use Prim.Native.Nat.{ℕ, ◌+◌, ◌/◌, ◌<◌, ◌≤◌}
+use mathlib.Core.Path.{◌≡◌, refl}
 use mathlib.Core.Bool.{Bool, true, false, cond, ◌&&◌}
 use mathlib.Core.List.{List}
 use native.Mathlib.Omega.{arith}
 use lib.Dec.{ltb}
-use lib.IntN.{ℤ, pos, sub_ℕ, ◌+ℤ◌}
+use lib.IntN.{pos, sub_ℕ, ◌+ℤ◌}
 use borrow.Author.Tests.{ltb-true, ltb-false}
 use Rattle.words.specs.Word.{word}
 use Rattle.words.specs.Refusal.{not_within}

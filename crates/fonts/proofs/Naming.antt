@@ -1,19 +1,18 @@
 -- The quick test of a map: by the greatest body and the greatest code that it names, and by the fewest pointers that a body has.
-use Prim.Native.Nat.{ℕ, ◌+◌, ◌-◌, ◌/◌, ◌%◌, ◌<◌, ◌≤◌, min, max}
-use mathlib.Core.Path.{◌≡◌, refl, sym, ap, ◌∙◌}
-use mathlib.Core.Bool.{Bool, true, false, cond, and-false}
+use Prim.Native.Nat.{ℕ, ◌+◌, ◌/◌, ◌%◌, ◌<◌, ◌≤◌, min, max}
+use mathlib.Core.Path.{◌≡◌, refl, ap, ◌∙◌}
+use mathlib.Core.Bool.{Bool, true, false, and-false}
 use mathlib.Core.List.{List}
 use native.Mathlib.Omega.{arith}
 use lib.Dec.{ltb}
-use lib.ListN.{length, take, drop, length-take, length-drop}
+use lib.ListN.{length, drop, length-take, length-drop}
 use borrow.Author.Tests.{ltb-true, ltb-false, lt-ltb, lt-leb}
 use Rattle.words.specs.Word.{word}
 use Rattle.words.specs.Search.{some_below}
 use Rattle.words.proofs.Search.{none_passes}
 use Rattle.fonts.specs.declared.Header.{Header}
-use Rattle.fonts.specs.declared.Name.{Name}
-use Rattle.fonts.specs.Strike.{index, codes, map_at, map_of, first_at, widths_of, body_of, body_start, pointer_count}
-use Rattle.fonts.specs.Entry.{name_of, name_in, marked}
+use Rattle.fonts.specs.Strike.{index, codes, map_at, map_of, first_at, body_of, body_start, pointer_count}
+use Rattle.fonts.specs.Entry.{name_of, name_in}
 use Rattle.fonts.specs.Reading.{EachHas, NamesWithin, pairs_in, lost, lost_at}
 
 -- what holds of each number below k, and of k, holds below k + 1

@@ -1,15 +1,15 @@
 -- "One row of a strike may be asked for": an accepted font, a body that is there and a row below its height give exactly raster words,
 -- those
 -- of the file from that row on, and never the empty part; all else gives the empty part.
-use Prim.Native.Nat.{ℕ, zero, suc, ◌+◌, ◌-◌, ◌*◌, ◌<◌, ◌≤◌}
-use mathlib.Core.Path.{◌≡◌, refl, sym, ap, ◌∙◌}
+use Prim.Native.Nat.{ℕ, zero, suc, ◌+◌, ◌*◌, ◌<◌, ◌≤◌}
+use mathlib.Core.Path.{◌≡◌, refl, ap, ◌∙◌}
 use mathlib.Core.Bool.{Bool, true, false, cond, ◌&&◌}
 use mathlib.Core.List.{List, []}
 use native.Mathlib.Omega.{arith}
 use lib.Dec.{ltb, eqb}
 use lib.ListN.{length, take, drop, length-drop}
 use lib.Seq.{length-take-le, get_or-take, get_or-drop}
-use borrow.Author.Tests.{eqb-true, eqb-false, ltb-true, ltb-false, lt-ltb, le-ltb, ne_eqb}
+use borrow.Author.Tests.{eqb-true, ltb-true, lt-ltb, le-ltb, ne_eqb}
 use Rattle.words.specs.Word.{word}
 use Rattle.words.proofs.Rows.{row_room}
 use Rattle.fonts.specs.declared.Strike.{Strike}
@@ -17,7 +17,7 @@ use Rattle.fonts.specs.Strike.{header_of, view_of, height, bitmap_words, start_f
 use Rattle.fonts.specs.Strike.{body_start}
 use Rattle.fonts.specs.Reading.{font_number, accepted}
 use Rattle.fonts.specs.Face.{row_of}
-use Rattle.fonts.proofs.Accepted.{accepted-sound, accepted-body}
+use Rattle.fonts.proofs.Accepted.{accepted-body}
 
 -- a body that is there begins where the walk over the bodies finds it
 pub strike-there : (ws : List ℕ) (k : ℕ) → k < (header_of ws).bodies

@@ -1,16 +1,16 @@
 -- P3: "one speaker picture under nine codes". Codes whose map entries are equal show the same dots, and in a plain index move the pen
 -- alike; the rows of a picture are placed by the ascent of its own body.
-use Prim.Native.Nat.{ℕ, ◌+◌, ◌-◌, ◌*◌, ◌/◌, ◌%◌}
-use mathlib.Core.Path.{◌≡◌, refl, sym, ap, ap₂, ◌∙◌}
-use mathlib.Core.Bool.{true, false, cond}
+use Prim.Native.Nat.{ℕ, ◌+◌, ◌-◌}
+use mathlib.Core.Path.{◌≡◌, refl, sym, ap, ◌∙◌}
+use mathlib.Core.Bool.{true, false}
 use mathlib.Core.List.{List}
-use lib.Dec.{eqb, ltb}
+use lib.Dec.{eqb}
 use Rattle.words.specs.Word.{word}
 use Rattle.fonts.specs.declared.Name.{Name}
 use Rattle.fonts.specs.declared.Strike.{Strike}
 use Rattle.fonts.specs.declared.Glyph.{Glyph}
 use Rattle.fonts.specs.Strike.{view_of, kerned, index, codes, height, map_of, strike_in, pointers_of, widths_of}
-use Rattle.fonts.specs.Entry.{name_of, name_in, entry_with, columns_of, advance_of}
+use Rattle.fonts.specs.Entry.{name_of, entry_with, columns_of, advance_of}
 use Rattle.fonts.specs.Face.{picture_of, strike_named, exists, place_of_code, glyph_by, glyph_from, dot_of, face_from, face_of}
 use Rattle.fonts.proofs.Mapped.{place-mapped, mapped-glyph}
 

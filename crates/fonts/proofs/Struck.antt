@@ -1,18 +1,16 @@
 -- A font without an index is one body: what its two tables say of a code is what it shows.
 use Prim.Native.Nat.{ℕ, ◌+◌, ◌-◌}
-use mathlib.Core.Path.{◌≡◌, refl, sym, ap, ap₂, ◌∙◌}
-use mathlib.Core.Bool.{Bool, true, false, cond, not, ◌&&◌}
+use mathlib.Core.Path.{◌≡◌, refl}
+use mathlib.Core.Bool.{Bool, true, false, cond, not}
 use mathlib.Core.List.{List}
-use Rattle.words.specs.Word.{word}
 use Rattle.fonts.specs.declared.Header.{Header}
 use Rattle.fonts.specs.declared.Strike.{Strike}
 use Rattle.fonts.specs.declared.View.{View}
 use Rattle.fonts.specs.declared.Entry.{Entry}
-use Rattle.fonts.specs.declared.Glyph.{Glyph}
-use Rattle.fonts.specs.Strike.{kerned, index, codes, first_at, first_strike, strike_in, pointers_of, widths_of}
-use Rattle.fonts.specs.Entry.{name_in, entry_with, entry_at, struck, present}
-use Rattle.fonts.specs.Face.{in_range, picture_of, strike_named, entry_in, exists, place_of_code, glyph_by, glyph_from}
-use Rattle.fonts.specs.Kinds.{only_bitmap, there, glyph_over, glyph_in, own_entry, dummy_entry}
+use Rattle.fonts.specs.Strike.{kerned, index, codes, first_at, first_strike, pointers_of, widths_of}
+use Rattle.fonts.specs.Entry.{name_in, entry_at, present}
+use Rattle.fonts.specs.Face.{picture_of, strike_named, entry_in, exists, place_of_code, glyph_by}
+use Rattle.fonts.specs.Kinds.{only_bitmap, there, glyph_over, glyph_in, own_entry}
 
 -- where its one bitmap begins
 only-strike : (v : View) → index v.header ≡ false → first_strike v ≡ record { bitmap = only_bitmap v.header; body = v.body }

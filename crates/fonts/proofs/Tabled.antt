@@ -1,19 +1,17 @@
 -- The tables of 128 numbers, one for each body that there is.
-use Prim.Native.Nat.{ℕ, ◌+◌, ◌-◌, ◌<◌, ◌≤◌, min}
-use mathlib.Core.Path.{◌≡◌, refl, sym, ap, ◌∙◌}
+use Prim.Native.Nat.{ℕ, ◌+◌, ◌-◌, ◌<◌, min}
+use mathlib.Core.Path.{◌≡◌, refl, ◌∙◌}
 use mathlib.Core.Bool.{Bool, true, false, cond}
 use mathlib.Core.List.{List}
 use native.Mathlib.Omega.{arith}
 use lib.Dec.{ltb, eqb}
-use lib.ListN.{length}
 use borrow.Author.Tests.{ltb-true, ltb-false}
 use Rattle.words.specs.Word.{word, table, over}
 use Rattle.words.proofs.Over.{over-at, over-past}
 use Rattle.words.proofs.Tables.{table-length, table_at}
 use Rattle.fonts.specs.declared.Header.{Header}
 use Rattle.fonts.specs.declared.View.{View}
-use Rattle.fonts.specs.declared.Strike.{Strike}
-use Rattle.fonts.specs.Strike.{body_of, body_start, bitmaps_of, strike_at, strike_in, strike_by, no_strike, pointer_count, first_strike}
+use Rattle.fonts.specs.Strike.{body_of, body_start, bitmaps_of, strike_in, strike_by, pointer_count, first_strike}
 use Rattle.fonts.specs.Reading.{pairs_in, pairs_of}
 
 module _ (f : ℕ → ℕ) (bodies none k : ℕ) (small : k < 128) where

@@ -5,9 +5,7 @@ use mathlib.Core.Bool.{Bool, true, false, cond}
 use mathlib.Core.List.{List, [], ◌∷◌}
 use native.Mathlib.Omega.{arith}
 use lib.Dec.{eqb}
-use lib.ListN.{length}
 use borrow.Author.Tests.{ne_eqb, eq-eqb, eqb-false}
-use Rattle.words.specs.declared.Effect.{Effect}
 use Rattle.words.specs.declared.Mode.{Mode}
 use Rattle.words.specs.declared.Mode.TheVariants.{Paint, Erase, Invert}
 use Rattle.words.specs.Effect.{identity, erase_of, effect_of, mode_of, join_of, clearing, cleared}

@@ -1,11 +1,11 @@
 -- Where the dots of a picture land, in the paper's whole numbers: a dot lands on a row and column exactly when the rule's equations say so
 -- (`landed`, `lands`), and it is the mark that painting makes there (`landing-mark`).
-use Prim.Native.Nat.{ℕ, ◌+◌, ◌-◌, ◌*◌, ◌<◌, ◌≤◌}
-use mathlib.Core.Path.{◌≡◌, refl, sym, ap, ap₂, ◌∙◌}
+use Prim.Native.Nat.{ℕ, ◌+◌, ◌-◌, ◌*◌, ◌<◌}
+use mathlib.Core.Path.{◌≡◌, refl, sym, ap, ◌∙◌}
 use mathlib.Core.Bool.{Bool, true, false, cond, ◌&&◌}
-use native.Mathlib.Nat.{zero-mul, one-mul, mul-one, mul-zero}
+use native.Mathlib.Nat.{zero-mul, mul-one, mul-zero}
 use native.Mathlib.Omega.{arith}
-use lib.Dec.{leb, ltb}
+use lib.Dec.{leb}
 use lib.IntN.{ℤ, pos, ◌+ℤ◌, ◌-ℤ◌}
 use borrow.Author.Tests.{le-leb, lt-ltb}
 use Rattle.words.specs.Place.{outside, place_of, number_at, dot_at}

@@ -8,7 +8,6 @@ use native.Mathlib.Omega.{arith}
 use Rattle.words.specs.declared.Effect.{Effect}
 use Rattle.words.specs.declared.Mode.{Mode}
 use Rattle.words.specs.declared.Mode.TheVariants.{Paint, Erase, Invert}
-use Rattle.words.specs.Word.{word}
 use Rattle.words.specs.Effect.{identity, effect_of, altered, OfWords}
 use Rattle.words.proofs.Effects.{mode-words}
 use Rattle.words.proofs.Rows.{row_of, word-of-row}

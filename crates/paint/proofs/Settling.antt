@@ -1,7 +1,7 @@
 -- Where a picture settles, its dots are no longer kept: keep changes as by Erase. Where it does not, keep stays.
-use Prim.Native.Nat.{ℕ, ◌<◌, ◌≤◌}
+use Prim.Native.Nat.{ℕ, ◌≤◌}
 use mathlib.Core.Path.{◌≡◌, refl, sym, ap, ◌∙◌}
-use mathlib.Core.Bool.{Bool, true, false, cond}
+use mathlib.Core.Bool.{Bool, true, false}
 use mathlib.Core.List.{List}
 use native.Mathlib.Omega.{arith}
 use lib.Dec.{ltb}
@@ -16,7 +16,7 @@ use Rattle.fonts.specs.Face.{Face, dot_of}
 use Rattle.paint.specs.declared.Stroke.{Stroke}
 use Rattle.paint.specs.declared.Pen.{Pen}
 use Rattle.paint.specs.Pen.{Drawable, erasing, stroke_words, on_panel, kept_if, picture_effect, label_effect}
-use Rattle.paint.specs.Reach.{first_row, end_row, left_at, shared, reach_over, reach_of, rows_drawn}
+use Rattle.paint.specs.Reach.{shared, reach_over, reach_of, rows_drawn}
 use Rattle.paint.proofs.Drawing.{nothing-drawn}
 use Rattle.paint.proofs.Reaching.{flip-drawn}
 use Rattle.paint.proofs.Keeping.{inverts, keep-erased, keep-stays, erasing-drawable}

@@ -1,6 +1,6 @@
 -- A label call: its refusals, its reply and what it leaves on the panel or the sheet. What ends in `With` speaks of a font that has been
 -- read, by its face; the rest of a call that has a file.
-use Rattle.std.specs.Prelude.{ℕ, ◌+◌, ◌*◌, ◌≡◌, Bool, true, false, cond, ◌||◌, ◌&&◌, List, [], ◌∷◌, ltb, leb, eqb, ℤ, pos, length}
+use Rattle.std.specs.Prelude.{ℕ, ◌+◌, ◌*◌, ◌≡◌, cond, ◌||◌, ◌&&◌, List, [], ◌∷◌, ltb, leb, eqb, ℤ, pos, length}
 use Rattle.words.specs.declared.Effect.{Effect}
 use Rattle.words.specs.Word.{words_of}
 use Rattle.words.specs.Refusal.{first_of, or_else}

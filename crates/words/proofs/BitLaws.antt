@@ -1,5 +1,5 @@
 -- The laws of AND and XOR that effects rest on. Each holds of the digits 0 and 1, by computing, and so of all numbers.
-use Prim.Native.Nat.{ℕ, zero, suc, ◌-◌, ◌<◌, min}
+use Prim.Native.Nat.{ℕ, zero, suc, ◌<◌, min}
 use mathlib.Core.Path.{◌≡◌, refl, sym, ap, ◌∙◌}
 use native.Mathlib.Nat.{mod-eq_of_lt}
 use native.Mathlib.Omega.{arith}

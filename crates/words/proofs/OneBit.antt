@@ -7,7 +7,7 @@ use native.Mathlib.Omega.{arith}
 use lib.Bits.{differ}
 use lib.Dec.{eqb}
 use borrow.Author.Tests.{eqb-true, ne_eqb}
-use Rattle.words.specs.Word.{bit_of, word_of, put_bit}
+use Rattle.words.specs.Word.{bit_of, put_bit}
 use Rattle.words.specs.Effect.{apply_to, paint_of, erase_of}
 use Rattle.words.specs.Search.{some_below}
 use Rattle.words.proofs.Digits.{bit_not, bit-zero, bit-digit}

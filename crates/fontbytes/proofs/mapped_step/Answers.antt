@@ -5,7 +5,7 @@ use mathlib.Core.Path.{sym, ap, ap₂, ◌∙◌}
 use lib.Dec.{eqb}
 use Rattle.words.specs.Word.{words_of}
 use Rattle.fonts.specs.declared.Strike.{Strike}
-use Rattle.fonts.specs.Strike.{codes, strike_by}
+use Rattle.fonts.specs.Strike.{strike_by}
 use Rattle.fonts.specs.Entry.{advance_of}
 use Rattle.fonts.specs.Face.{picture_of, entry_in, glyph_by}
 use Rattle.fonts.proofs.Mapped.{place-mapped, substitute-mapped}

@@ -2,7 +2,7 @@
 -- Assumes nothing.
 use Prim.Native.Nat.{ℕ, ◌+◌, ◌-◌, ◌*◌, ◌≤◌}
 use mathlib.Core.Path.{◌≡◌}
-use Rattle.words.specs.Word.{words_of, table, over}
+use Rattle.words.specs.Word.{words_of, over}
 use Rattle.fonts.specs.Strike.{body_of, start_from, pointer_count}
 use Rattle.fontbytes.proofs.pairs.Given as goal
 

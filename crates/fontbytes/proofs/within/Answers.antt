@@ -1,6 +1,6 @@
-use Prim.Native.Nat.{ℕ, ◌-◌, ◌/◌, ◌%◌, max}
+use Prim.Native.Nat.{ℕ, ◌/◌, ◌%◌, max}
 use mathlib.Core.Path.{ap, ◌∙◌}
-use mathlib.Core.Bool.{true, false, false≢true}
+use mathlib.Core.Bool.{false≢true}
 use native.Mathlib.Omega.{arith}
 use borrow.Author.Tests.{ltb-true}
 use Rattle.words.specs.Word.{words_of}

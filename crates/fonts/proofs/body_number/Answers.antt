@@ -1,7 +1,7 @@
 -- `fonts::body_number` meets its contract: the two stages are the definition's. The pointers are those of the body that begins at this
 -- word.
 -- Assumes nothing.
-use Prim.Native.Nat.{◌+◌, ◌-◌}
+use Prim.Native.Nat.{◌+◌}
 use mathlib.Core.Path.{◌≡◌, ap, ◌∙◌}
 use lib.ListN.{length}
 use Rattle.words.specs.Refusal.{first_of}

@@ -2,7 +2,7 @@
 -- Assumes nothing.
 use Prim.Native.Nat.{ℕ, ◌+◌, ◌-◌, ◌*◌, ◌≤◌}
 use mathlib.Core.Path.{◌≡◌}
-use Rattle.words.specs.Word.{table, over}
+use Rattle.words.specs.Word.{over}
 use Rattle.fonts.specs.Strike.{body_of, start_from, pointer_count}
 use Rattle.fonts.proofs.pairs.Given as goal
 

@@ -1,8 +1,7 @@
-use Prim.Native.Nat.{◌-◌}
 use mathlib.Core.Path.{◌≡◌, refl, ◌∙◌}
 use native.Mathlib.Omega.{arith}
 use lib.ListN.{length-set}
-use Rattle.words.specs.Word.{word, over}
+use Rattle.words.specs.Word.{over}
 use Rattle.words.proofs.Over.{over-step}
 use Rattle.sheets.proofs.fill.Goals as goal
 use Rattle.sheets.proofs.fill.Goals.{At-loop-i}

@@ -5,7 +5,7 @@ use mathlib.Core.Path.{◌≡◌}
 use mathlib.Core.Bool.{false}
 use lib.Dec.{eqb}
 use Rattle.words.specs.Search.{some_below}
-use Rattle.convert.specs.Cu.{raster_dot, rows}
+use Rattle.convert.specs.Cu.{raster_dot}
 use Rattle.convert.proofs.cu.dot_in_column.Given as goal
 
 abbrev pub invariant-loop-i : goal.invariant-loop-i

@@ -1,10 +1,8 @@
-use Prim.Native.Nat.{◌-◌}
 use mathlib.Core.Path.{◌≡◌, refl, sym, ◌∙◌}
-use mathlib.Core.Bool.{false}
 use native.Mathlib.Omega.{arith}
 use Rattle.words.specs.Word.{word}
 use Rattle.words.specs.Search.{some_below}
-use Rattle.convert.specs.Cu.{rows, dot_in_row, has_dot}
+use Rattle.convert.specs.Cu.{rows, has_dot}
 use Rattle.words.proofs.Search.{none_more, some-here}
 use Rattle.convert.proofs.cu.has_dot.Goals as goal
 

@@ -4,7 +4,7 @@ use Prim.Native.Nat.{◌-◌, ◌≤◌}
 use mathlib.Core.Path.{◌≡◌}
 use mathlib.Core.Bool.{false}
 use Rattle.words.specs.Search.{some_below}
-use Rattle.convert.specs.Cu.{rows, dot_in_row}
+use Rattle.convert.specs.Cu.{dot_in_row}
 use Rattle.convert.proofs.cu.has_dot.Given as goal
 
 abbrev pub invariant-loop-i : goal.invariant-loop-i

@@ -1,9 +1,7 @@
-use Prim.Native.Nat.{◌-◌}
 use mathlib.Core.Path.{◌≡◌, refl, sym, ◌∙◌}
-use mathlib.Core.Bool.{false}
 use native.Mathlib.Omega.{arith}
 use Rattle.words.specs.Search.{some_below}
-use Rattle.convert.specs.Cu.{width, column_used, leftmost}
+use Rattle.convert.specs.Cu.{width, leftmost}
 use Rattle.words.proofs.Search.{none_more, first-here, first-none}
 use Rattle.convert.proofs.cu.leftmost.Goals as goal
 

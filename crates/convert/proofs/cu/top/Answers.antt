@@ -1,10 +1,8 @@
-use Prim.Native.Nat.{◌-◌}
 use mathlib.Core.Path.{◌≡◌, refl, sym, ◌∙◌}
-use mathlib.Core.Bool.{false}
 use native.Mathlib.Omega.{arith}
 use Rattle.words.specs.Word.{word}
 use Rattle.words.specs.Search.{some_below}
-use Rattle.convert.specs.Cu.{rows, row_used, top}
+use Rattle.convert.specs.Cu.{rows, top}
 use Rattle.words.proofs.Search.{none_more, first-here, first-none}
 use Rattle.convert.proofs.cu.top.Goals as goal
 

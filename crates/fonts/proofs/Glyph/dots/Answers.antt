@@ -1,7 +1,7 @@
-use Prim.Native.Nat.{ℕ, ◌+◌, ◌-◌, ◌<◌}
+use Prim.Native.Nat.{ℕ, ◌+◌, ◌<◌}
 use mathlib.Core.Path.{◌≡◌, refl}
 use native.Mathlib.Omega.{arith}
-use Rattle.words.specs.Word.{word, word_to, word_of}
+use Rattle.words.specs.Word.{word_to, word_of}
 use Rattle.fonts.specs.Face.{dots_of}
 use Rattle.words.proofs.Bits.{one-bit-more, one-bit-fits}
 use Rattle.fonts.proofs.Dots.{dot-bit, dots_from}

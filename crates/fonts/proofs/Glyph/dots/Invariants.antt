@@ -2,7 +2,7 @@
 -- Assumes nothing.
 use Prim.Native.Nat.{◌-◌, ◌≤◌}
 use mathlib.Core.Path.{◌≡◌}
-use Rattle.words.specs.Word.{word, word_to}
+use Rattle.words.specs.Word.{word_to}
 use Rattle.fonts.proofs.Dots.{dots_from}
 use Rattle.fonts.proofs.Glyph.dots.Given as goal
 
