@@ -1,7 +1,9 @@
 // Reading an input of bytes that is not too long: what the programs share.
 #![tactic(auto)]
 
-ghost use Rattle.std.specs.Prelude.{◌≤◌, length};
+ghost use Rattle.std.specs.Prelude.{◌≡◌, ◌<◌, ◌≤◌, false, length, take};
+ghost use Rattle.std.specs.List.{between};
+ghost use Rattle.std.specs.Io.KnownBytes.{Consumes, IsAtEnd};
 ghost use Rattle.reading.specs.Counts.{IsPrefixLen};
 
 use std::io::Read;
@@ -17,9 +19,12 @@ pub struct Input {
 }
 
 // Reads once, behind the bytes that are there. No more bytes are there afterwards where the input has ended.
-fn read_on(from: &mut impl Read, space: &mut [u8], at: usize) -> Input
+fn read_on<R: Read>(from: &mut R, space: &mut [u8], at: usize) -> Input
     requires { at ≤ length space.old }
-    ensures { (at ≤ result.bytes) × (result.bytes ≤ length space.old) }
+    ensures bytes { (at ≤ result.bytes) × (result.bytes ≤ length space.old) }
+    ensures before { take at space.new ≡ take at space.old }
+    ensures taken { Consumes (R.remaining from.old) (R.remaining from.new) (between at result.bytes space.new) }
+    ensures over { result.failed ≡ false → result.bytes ≡ at → at < length space.old → IsAtEnd (R.remaining from.new) }
 {
     let rest = &mut space[at..];
     match from.read(rest) {
@@ -34,9 +39,11 @@ fn read_on(from: &mut impl Read, space: &mut [u8], at: usize) -> Input
     }
 }
 
-// Reads until the input ends, there is more of it than is taken, or a read fails.
-pub fn read(from: &mut impl Read, space: &mut [u8; BYTES]) -> Input
-    ensures { IsPrefixLen result.bytes space.new }
+// Reads until the input ends, there is more of it than is taken, or a read fails. The bytes that are there are the first of the input.
+pub fn read<R: Read>(from: &mut R, space: &mut [u8; BYTES]) -> Input
+    ensures bytes { IsPrefixLen result.bytes space.new }
+    ensures taken { Consumes (R.remaining from.old) (R.remaining from.new) (take result.bytes space.new) }
+    ensures over { result.failed ≡ false → result.bytes < 65537 → IsAtEnd (R.remaining from.new) }
 {
     let mut input = Input {
         failed: false,
