@@ -22,7 +22,8 @@ pub fn first_of(bytes: &[u8; BYTES], count: usize) -> &[u8]
 
 // Nothing that was read, since it could not be.
 fn unread() -> Input
-    ensures { result.bytes ≡ 0 }
+    ensures failed { result.failed ≡ true }
+    ensures bytes { result.bytes ≡ 0 }
 {
     Input {
         failed: true,

@@ -14,6 +14,7 @@ pub fn write(rt: &impl Print, bytes: &[u8]) {
     let _ = rt.write_all(bytes);
 }
 
+#[tactic(auto, unfolding(crate::specs::Text::place_for, crate::specs::Text::with_byte))]
 pub fn put(rt: &impl Print, text: &mut [u8; TEXT], at: usize, b: u8) -> usize
     ensures { waiting text.new result ≡ with_byte (waiting text.old at) b }
 {
