@@ -6,7 +6,7 @@ ghost use Rattle.std.specs.Prelude.{◌≡◌, ◌%◌, length};
 ghost use Rattle.replay.specs.Text.{Puts, list_bytes};
 ghost use Rattle.replay.specs.Answers.{widen_after, shown_bytes, register_bytes, values_spread, show_answer, values_shown};
 ghost use Rattle.replay.specs.Registers.{register, register_of, nothing_held, held_by, held_with, held_written, words_of};
-ghost use Rattle.replay.specs.Registers.{copied, copy_after, narrowed, narrow_after, at_entry, at_exit, held_after, arrays_after};
+ghost use Rattle.replay.specs.Registers.{copied, copy_after, narrowed, narrow_after, arrays, at_entry, at_exit, held_after, arrays_after};
 ghost use Rattle.replay.specs.Registers.{kept_after, files_kept, held_from_written, values_from_written, files_from_written};
 ghost use Rattle.replay.specs.Registers.{held_with_counts, lent_with_counts};
 ghost use Rattle.replay.specs.Names.{panel};
@@ -226,7 +226,7 @@ pub fn show(
     text: &mut [u8; TEXT],
     at: usize,
 ) -> usize
-    ensures puts { Puts text at (show_answer line values.old held (at_entry files lent keeps flips bytes)) result }
+    ensures puts { Puts text at (show_answer line values.old held (arrays files.now lent.now keeps.now flips.now bytes.now)) result }
     ensures values { values.new ≡ values_shown line values.old held bytes.now }
 {
     if line.command != names::SHOW {
@@ -255,7 +255,8 @@ fn put_register(
     text: &mut [u8; TEXT],
     at: usize,
 ) -> usize
-    ensures puts { Puts text at (register_bytes r.array r count values.old (at_entry files lent keeps flips bytes)) result }
+    ensures puts { Puts text at
+        (register_bytes r.array r count values.old (arrays files.now lent.now keeps.now flips.now bytes.now)) result }
     ensures values { values.new ≡ values_spread r.array count values.old bytes.now }
 {
     let array = r.array;
