@@ -1,12 +1,13 @@
 // Reads a CU file on standard input and writes its KernedStrike file on standard output, and nothing else there.
+#![tactic(auto)]
+
 ghost use Rattle.std.specs.Prelude.{◌≡◌, ◌≤◌, ◌++◌, length, drop};
-ghost use Rattle.io.specs.Counts.{IsPrefixLen};
+ghost use Rattle.reading.specs.Counts.{IsPrefixLen};
 ghost use Rattle.words.specs.Word.{words_of};
 ghost use Rattle.convert.specs.Conversion.{conversion_of, output_after, bytes_number, program_output};
 ghost use Rattle.cu2ks.specs.Program.{answer_of};
 
 use convert::Conversion;
-use libc::{STDERR_FILENO, STDIN_FILENO, STDOUT_FILENO};
 use reading::BYTES;
 
 // The words of the most bytes.
@@ -19,7 +20,7 @@ const OUT: usize = 32_768;
 const PRINTED: usize = 65_536;
 
 // What the program answers: the number of its refusal or 0, and how many bytes it prints.
-#[derive(Drop)]
+#[derive(Clone, Copy)]
 struct Answer {
     number: u32,
     bytes: usize,
@@ -73,33 +74,36 @@ fn program(bytes: &[u8], printed: &mut [u8; PRINTED]) -> Answer
     }
 }
 
-fn refuse(number: u32) {
-    io::write_all(STDERR_FILENO, b"refused ");
-    io::print_decimal(STDERR_FILENO, number as u64);
-    io::write_all(STDERR_FILENO, b"\n");
+// Says a line on standard error. Where that cannot be written either, there is nowhere left to say so.
+fn say(rt: &impl Eprint, line: &str) {
+    let _ = rt.eprintln(line);
+}
+
+fn refuse(rt: &impl Eprint, number: u32) {
+    let _ = eprintln!(rt; "refused {number}");
 }
 
 // Answers the bytes that were read.
-fn run(bytes: &[u8]) {
+fn run(rt: &(impl Print + Eprint), bytes: &[u8]) {
     let mut printed = [0u8; PRINTED];
     let answer = program(bytes, &mut printed);
     if answer.number != 0 {
-        refuse(answer.number);
+        refuse(rt, answer.number);
         return;
     }
     let n = answer.bytes;
-    if !io::write_all(STDOUT_FILENO, &printed[..n]) {
-        io::write_all(STDERR_FILENO, b"write failed\n");
+    if rt.write_all(&printed[..n]).is_err() {
+        say(rt, "write failed");
     }
 }
 
-fn main() {
+fn main(rt: HostRuntime) {
     let mut space = [0u8; BYTES];
-    let input = reading::read(STDIN_FILENO, &mut space);
+    let input = reading::read(&mut rt.stdin(), &mut space);
     if input.failed {
-        io::write_all(STDERR_FILENO, b"read failed\n");
+        say(&rt, "read failed");
         return;
     }
     let n = input.bytes;
-    run(&space[..n]);
+    run(&rt, &space[..n]);
 }

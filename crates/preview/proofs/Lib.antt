@@ -4,7 +4,6 @@ pub mod Signs
 pub mod Same
 pub mod Words
 pub mod Lines
-pub mod Failing
 pub mod Keeping
 pub mod Cutting
 pub mod Spelling

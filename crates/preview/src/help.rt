@@ -3,7 +3,6 @@ ghost use Rattle.std.specs.Prelude.{◌≡◌, true};
 ghost use Rattle.preview.specs.Help.{HelpAsked};
 
 use crate::message::say_written;
-use libc::STDOUT_FILENO;
 
 pub fn same(a: &[u8], b: &[u8]) -> bool
     ensures { (result ≡ true → a.now ≡ b.now) × (a.now ≡ b.now → result ≡ true) }
@@ -31,10 +30,9 @@ pub fn is_asked(count: usize, first: &[u8]) -> bool
     same(first, b"--help")
 }
 
-pub fn print() {
-    say_written(io::write_all(
-        STDOUT_FILENO,
-        b"usage: preview [--counts] FONT R H W < LINES > PICTURE
+pub fn print(rt: &(impl Print + Eprint)) {
+    let printed = rt.print(
+        "usage: preview [--counts] FONT R H W < LINES > PICTURE
 
 Paints labels on a panel and writes a picture of it (PBM, kind P4).
 FONT is a strike file. R is the words of a row of the panel, 16 dots each, H its rows, W the columns of a strip.
@@ -50,5 +48,6 @@ Empty lines, and lines that begin with #, are passed over.
 What is wrong with a line, and how many codes of it the font does not have, is said on standard error; the rest is painted all the same.
 With --counts the lit dots of each strip are told on standard error, one line a strip.
 ",
-    ));
+    );
+    say_written(rt, printed.is_ok());
 }

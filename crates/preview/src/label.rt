@@ -10,7 +10,7 @@ use paint::Label;
 // The most bytes of a label's line, without its return.
 pub const LONGEST: usize = 1_000;
 
-#[derive(Drop)]
+#[derive(Clone, Copy)]
 pub enum Line {
     Label(Label),
     Passed,

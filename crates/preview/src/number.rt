@@ -12,7 +12,7 @@ const LARGEST: u64 = 2_147_483_647;
 const LEAST: u64 = 2_147_483_648;
 
 // What a text is as a number with a sign.
-#[derive(Drop)]
+#[derive(Clone, Copy)]
 pub enum Signed {
     Number(i32),
     Other,

@@ -9,12 +9,13 @@ use crate::message::{say, say_line, say_reply};
 use crate::number::part;
 use paint::Shape;
 use reading::BYTES;
+use std::io::Read;
 
 // The bytes that are kept of a line: no label has so many, also where the last of them is a carriage return.
 const LINE: usize = LONGEST + 2;
 
 // The line that is being read: its number, from 1, and how many bytes of it there are so far.
-#[derive(Drop)]
+#[derive(Clone, Copy)]
 struct Lines {
     number: u64,
     length: usize,
@@ -61,7 +62,7 @@ impl Lines {
 }
 
 // How far the lines are read: the line that is being read, and the lit dots of the strips as the lines before it have left them.
-#[derive(Drop)]
+#[derive(Clone, Copy)]
 struct Progress {
     lines: Lines,
     counts: [u32; 32],
@@ -80,7 +81,7 @@ impl Progress {
 }
 
 // What painting all lines answers: whether every read went well, and the lit dots of the strips.
-#[derive(Drop)]
+#[derive(Clone, Copy)]
 pub struct Answer {
     pub whole: bool,
     pub counts: [u32; 32],
@@ -104,6 +105,7 @@ fn line_so_far(line: &[u8; LINE], lines: Lines) -> &[u8]
 
 // Paints the label of a line, says what there is to say of it, and hands back the new counts.
 fn paint_line(
+    rt: &impl Eprint,
     line: &[u8],
     number: u64,
     font: &[u16],
@@ -117,8 +119,8 @@ fn paint_line(
     match read {
         Line::Passed => counts,
         Line::Other => {
-            say_line(number);
-            say(b": not a label\n");
+            say_line(rt, number);
+            say(rt, ": not a label\n");
             counts
         }
         Line::Label(label) => {
@@ -126,7 +128,7 @@ fn paint_line(
             let painted = counts::paint(font, s, label, text, panel, counts);
             let reply = painted.reply;
             let left = painted.counts;
-            say_reply(number, reply);
+            say_reply(rt, number, reply);
             left
         }
     }
@@ -134,6 +136,7 @@ fn paint_line(
 
 // Takes one more byte of the lines.
 fn take_byte(
+    rt: &impl Eprint,
     b: u8,
     before: Progress,
     line: &mut [u8; LINE],
@@ -147,6 +150,7 @@ fn take_byte(
     let counts = before.counts;
     if b == b'\n' {
         let left = paint_line(
+            rt,
             line_so_far(line, lines),
             lines.number,
             font,
@@ -170,6 +174,7 @@ fn take_byte(
 // Takes more bytes of the lines. By its type the array has its length, and the slice holds bytes; a contract has neither from a type, so
 // the caller is asked for the one and told the other.
 fn take_bytes(
+    rt: &impl Eprint,
     bytes: &[u8],
     before: Progress,
     line: &mut [u8; LINE],
@@ -184,7 +189,7 @@ fn take_bytes(
     let mut so_far = before;
     let mut i = 0;
     while i < bytes.len() {
-        so_far = take_byte(bytes[i], so_far, line, font, s, panel);
+        so_far = take_byte(rt, bytes[i], so_far, line, font, s, panel);
         i += 1;
     }
     so_far
@@ -192,7 +197,13 @@ fn take_bytes(
 
 // Paints all lines, with counts that are zeros at first. A proved loop has to end, and nothing says that the lines do: the turns are
 // counted down from a number that no run uses up.
-pub fn paint_lines(font: &[u16], s: Shape, panel: &mut [u16]) -> Answer
+pub fn paint_lines(
+    rt: &impl Eprint,
+    from: &mut impl Read,
+    font: &[u16],
+    s: Shape,
+    panel: &mut [u16],
+) -> Answer
     ensures { Painted font.now s panel.old result panel.new }
 {
     let mut bytes = [0u8; BYTES];
@@ -201,7 +212,7 @@ pub fn paint_lines(font: &[u16], s: Shape, panel: &mut [u16]) -> Answer
     let mut turns = u64::MAX;
     while 0 < turns {
         turns -= 1;
-        let input = read_some(&mut bytes);
+        let input = read_some(from, &mut bytes);
         let lines = so_far.lines;
         let counts = so_far.counts;
         if input.failed {
@@ -212,6 +223,7 @@ pub fn paint_lines(font: &[u16], s: Shape, panel: &mut [u16]) -> Answer
         }
         if input.bytes == 0 {
             let last = paint_line(
+                rt,
                 line_so_far(&line, lines),
                 lines.number,
                 font,
@@ -225,6 +237,7 @@ pub fn paint_lines(font: &[u16], s: Shape, panel: &mut [u16]) -> Answer
             };
         }
         so_far = take_bytes(
+            rt,
             first_of(&bytes, input.bytes),
             so_far,
             &mut line,

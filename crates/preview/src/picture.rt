@@ -1,6 +1,6 @@
 // The picture of a panel, as a PBM file of the kind P4.
 ghost use Rattle.std.specs.Prelude.{◌≡◌, ◌+◌, ◌≤◌, ◌<◌, [], ◌∷◌, ◌++◌, length};
-ghost use Rattle.io.specs.Counts.{IsPrefixLen};
+ghost use Rattle.reading.specs.Counts.{IsPrefixLen};
 ghost use Rattle.paint.specs.Panel.{panel_words};
 ghost use Rattle.preview.specs.Picture.{most_words, header_bytes, picture_bytes};
 ghost use Rattle.preview.specs.Picture.{digit as Picture·digit, leading, decimal, header_of, rows_of, picture_of, Put};

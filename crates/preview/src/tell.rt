@@ -15,19 +15,19 @@ pub fn is_asked(count: usize, first: &[u8]) -> bool
     same(first, b"--counts")
 }
 
-fn say_strip(strip: u64, lit: u32) {
-    say(b"strip ");
-    say_number(strip);
-    say(b": ");
-    say_number(lit as u64);
-    say(b" lit\n");
+fn say_strip(rt: &impl Eprint, strip: u64, lit: u32) {
+    say(rt, "strip ");
+    say_number(rt, strip);
+    say(rt, ": ");
+    say_number(rt, lit as u64);
+    say(rt, " lit\n");
 }
 
 // One line a strip.
-pub fn print(counts: [u32; 32]) {
+pub fn print(rt: &impl Eprint, counts: [u32; 32]) {
     let mut k = 0;
     while k < 32 {
-        say_strip(k as u64, counts[k]);
+        say_strip(rt, k as u64, counts[k]);
         k += 1;
     }
 }

@@ -1,6 +1,12 @@
 // Reading an input of bytes that is not too long: what the programs share.
-ghost use Rattle.std.specs.Prelude.{◌≤◌, length};
-ghost use Rattle.io.specs.Counts.{IsPrefixLen};
+#![tactic(auto)]
+
+ghost use Rattle.std.specs.Prelude.{◌≡◌, ◌<◌, ◌≤◌, false, length, take};
+ghost use Rattle.std.specs.List.{between};
+ghost use Rattle.std.specs.Io.KnownBytes.{Consumes, IsAtEnd};
+ghost use Rattle.reading.specs.Counts.{IsPrefixLen};
+
+use std::io::Read;
 
 // The most bytes that are taken of an input, and one more: a longer one is not read to its end.
 pub const BYTES: usize = 65_537;
@@ -13,27 +19,31 @@ pub struct Input {
 }
 
 // Reads once, behind the bytes that are there. No more bytes are there afterwards where the input has ended.
-fn read_on(fd: i32, space: &mut [u8], at: usize) -> Input
+fn read_on<R: Read>(from: &mut R, space: &mut [u8], at: usize) -> Input
     requires { at ≤ length space.old }
-    ensures { (at ≤ result.bytes) × (result.bytes ≤ length space.old) }
+    ensures bytes { (at ≤ result.bytes) × (result.bytes ≤ length space.old) }
+    ensures before { take at space.new ≡ take at space.old }
+    ensures taken { Consumes (R.remaining from.old) (R.remaining from.new) (between at result.bytes space.new) }
+    ensures over { result.failed ≡ false → result.bytes ≡ at → at < length space.old → IsAtEnd (R.remaining from.new) }
 {
     let rest = &mut space[at..];
-    let got = libc::read(fd, rest);
-    if got < 0 {
-        return Input {
+    match from.read(rest) {
+        Ok(count) => Input {
+            failed: false,
+            bytes: at + count,
+        },
+        Err(_) => Input {
             failed: true,
             bytes: at,
-        };
-    }
-    Input {
-        failed: false,
-        bytes: at + io::count(got, rest),
+        },
     }
 }
 
-// Reads until the input ends, there is more of it than is taken, or a read fails.
-pub fn read(fd: i32, space: &mut [u8; BYTES]) -> Input
-    ensures { IsPrefixLen result.bytes space.new }
+// Reads until the input ends, there is more of it than is taken, or a read fails. The bytes that are there are the first of the input.
+pub fn read<R: Read>(from: &mut R, space: &mut [u8; BYTES]) -> Input
+    ensures bytes { IsPrefixLen result.bytes space.new }
+    ensures taken { Consumes (R.remaining from.old) (R.remaining from.new) (take result.bytes space.new) }
+    ensures over { result.failed ≡ false → result.bytes < 65537 → IsAtEnd (R.remaining from.new) }
 {
     let mut input = Input {
         failed: false,
@@ -41,7 +51,7 @@ pub fn read(fd: i32, space: &mut [u8; BYTES]) -> Input
     };
     let mut at = 0;
     while at < BYTES {
-        input = read_on(fd, space, at);
+        input = read_on(from, space, at);
         if input.failed {
             return input;
         }

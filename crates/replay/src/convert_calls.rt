@@ -37,17 +37,24 @@ fn convert(held: Held, files: &[u16], lent: &mut [u16]) -> Conversion
     convert::convert(cu, registers::lent_words(lent, held, names::OUT))
 }
 
-fn put_conversion(text: &mut [u8; TEXT], at: usize, line: Line, conversion: Conversion) -> usize
+fn put_conversion(
+    rt: &impl Print,
+    text: &mut [u8; TEXT],
+    at: usize,
+    line: Line,
+    conversion: Conversion,
+) -> usize
     ensures { Puts text at (conversion_bytes line.command conversion) result }
 {
-    let at = put_name(text, at, line.command);
-    let at = put_number(text, at, refusal(conversion) as u64);
-    let at = put_number(text, at, words_written(conversion) as u64);
-    put(text, at, b'\n')
+    let at = put_name(rt, text, at, line.command);
+    let at = put_number(rt, text, at, refusal(conversion) as u64);
+    let at = put_number(rt, text, at, words_written(conversion) as u64);
+    put(rt, text, at, b'\n')
 }
 
 // Answers a call of this file, or performs its command.
 pub fn answer(
+    rt: &impl Print,
     line: Line,
     values: &mut [u16; VALUES],
     state: State,
@@ -60,7 +67,7 @@ pub fn answer(
     let held = state.held;
     if line.command == names::CONVERT {
         let conversion = convert(held, files, lent);
-        let at = put_conversion(text, state.at, line, conversion);
+        let at = put_conversion(rt, text, state.at, line, conversion);
         let held = registers::keep_written(held, words_written(conversion), lent, files);
         return State { held, at };
     }

@@ -137,6 +137,7 @@ fn clear(line: Line, held: Held, lent: &mut [u16]) -> Settled
 
 // Answers what painting has answered, and keeps its counts.
 fn answer_painted(
+    rt: &impl Print,
     line: Line,
     painted: Painted,
     state: State,
@@ -150,13 +151,14 @@ fn answer_painted(
     let held = state.held;
     let reply = painted.reply;
     let counts = painted.counts;
-    let at = put_reply(text, state.at, line, reply);
+    let at = put_reply(rt, text, state.at, line, reply);
     let held = keep(held, counts, lent);
     State { held, at }
 }
 
 // The same of applying and clearing.
 fn answer_settled(
+    rt: &impl Print,
     line: Line,
     settled: Settled,
     state: State,
@@ -169,13 +171,14 @@ fn answer_settled(
 {
     let held = state.held;
     let counts = settled.counts;
-    let at = put_refusal(text, state.at, line, settled.number);
+    let at = put_refusal(rt, text, state.at, line, settled.number);
     let held = keep(held, counts, lent);
     State { held, at }
 }
 
 // Answers a call of this file.
 pub fn answer(
+    rt: &impl Print,
     line: Line,
     font: &[u16],
     label: &[u8],
@@ -193,18 +196,18 @@ pub fn answer(
     let state = State { held, at };
     if line.command == names::PAINTLIT {
         let painted = paint(line, font, label, held, lent);
-        return answer_painted(line, painted, state, lent, text);
+        return answer_painted(rt, line, painted, state, lent, text);
     }
     if line.command == names::APPLYLIT {
         let sheet = line.number(0);
         let keep = registers::held_words(keeps, held, names::keep_of(sheet));
         let flip = registers::held_words(flips, held, names::flip_of(sheet));
         let settled = apply(line, keep, flip, held, lent);
-        return answer_settled(line, settled, state, lent, text);
+        return answer_settled(rt, line, settled, state, lent, text);
     }
     if line.command == names::CLEAR {
         let settled = clear(line, held, lent);
-        return answer_settled(line, settled, state, lent, text);
+        return answer_settled(rt, line, settled, state, lent, text);
     }
     state
 }

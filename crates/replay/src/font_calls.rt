@@ -36,87 +36,88 @@ fn glyph_of(font: &[u16], code: u32) -> Glyph
 }
 
 // A place from the pen, which a font counts from 2048 to its left.
-fn put_place(text: &mut [u8; TEXT], at: usize, place: u32) -> usize
+fn put_place(rt: &impl Print, text: &mut [u8; TEXT], at: usize, place: u32) -> usize
     ensures { Puts text at (place_bytes place) result }
 {
     if place < 2048 {
-        return put_negative(text, at, (2048 - place) as u64);
+        return put_negative(rt, text, at, (2048 - place) as u64);
     }
-    put_number(text, at, (place - 2048) as u64)
+    put_number(rt, text, at, (place - 2048) as u64)
 }
 
-fn put_glyph(text: &mut [u8; TEXT], at: usize, glyph: Glyph) -> usize
+fn put_glyph(rt: &impl Print, text: &mut [u8; TEXT], at: usize, glyph: Glyph) -> usize
     ensures { Puts text at (glyph_bytes glyph) result }
 {
-    let at = put_number(text, at, glyph.columns as u64);
-    let at = put_place(text, at, glyph.place);
-    let at = put_number(text, at, glyph.advance as u64);
-    let at = put_number(text, at, glyph.substitute as u64);
-    let at = put_number(text, at, glyph.ascent as u64);
-    put_number(text, at, glyph.height as u64)
+    let at = put_number(rt, text, at, glyph.columns as u64);
+    let at = put_place(rt, text, at, glyph.place);
+    let at = put_number(rt, text, at, glyph.advance as u64);
+    let at = put_number(rt, text, at, glyph.substitute as u64);
+    let at = put_number(rt, text, at, glyph.ascent as u64);
+    put_number(rt, text, at, glyph.height as u64)
 }
 
 // How each of these answers but row begins: the call, and the number of the font's refusal.
-fn put_head(text: &mut [u8; TEXT], at: usize, line: Line, font: &[u16]) -> usize
+fn put_head(rt: &impl Print, text: &mut [u8; TEXT], at: usize, line: Line, font: &[u16]) -> usize
     ensures { Puts text at (head_bytes line.command font.now) result }
 {
-    let at = put_name(text, at, line.command);
-    put_number(text, at, fonts::number(font) as u64)
+    let at = put_name(rt, text, at, line.command);
+    put_number(rt, text, at, fonts::number(font) as u64)
 }
 
-fn check(line: Line, font: &[u16], text: &mut [u8; TEXT], at: usize) -> usize
+fn check(rt: &impl Print, line: Line, font: &[u16], text: &mut [u8; TEXT], at: usize) -> usize
     ensures { Puts text at (check_answer line font.now) result }
 {
-    let at = put_head(text, at, line, font);
-    put(text, at, b'\n')
+    let at = put_head(rt, text, at, line, font);
+    put(rt, text, at, b'\n')
 }
 
-fn glyph(line: Line, font: &[u16], text: &mut [u8; TEXT], at: usize) -> usize
+fn glyph(rt: &impl Print, line: Line, font: &[u16], text: &mut [u8; TEXT], at: usize) -> usize
     ensures { Puts text at (glyph_answer line font.now) result }
 {
-    let at = put_head(text, at, line, font);
-    let at = put_glyph(text, at, glyph_of(font, line.number(0)));
-    put(text, at, b'\n')
+    let at = put_head(rt, text, at, line, font);
+    let at = put_glyph(rt, text, at, glyph_of(font, line.number(0)));
+    put(rt, text, at, b'\n')
 }
 
-fn dots(line: Line, font: &[u16], text: &mut [u8; TEXT], at: usize) -> usize
+fn dots(rt: &impl Print, line: Line, font: &[u16], text: &mut [u8; TEXT], at: usize) -> usize
     ensures { Puts text at (dots_answer line font.now) result }
 {
     let glyph = glyph_of(font, line.number(0));
     let word = glyph.dots(font, line.number(1) as usize, line.number(2));
-    let at = put_head(text, at, line, font);
-    let at = put_value(text, at, word, 4);
-    put(text, at, b'\n')
+    let at = put_head(rt, text, at, line, font);
+    let at = put_value(rt, text, at, word, 4);
+    put(rt, text, at, b'\n')
 }
 
-fn row(line: Line, font: &[u16], text: &mut [u8; TEXT], at: usize) -> usize
+fn row(rt: &impl Print, line: Line, font: &[u16], text: &mut [u8; TEXT], at: usize) -> usize
     ensures { Puts text at (row_answer line font.now) result }
 {
-    let at = put_name(text, at, line.command);
+    let at = put_name(rt, text, at, line.command);
     let at = put_list(
+        rt,
         text,
         at,
         fonts::row(font, line.number(0) as usize, line.number(1) as usize),
         4,
     );
-    put(text, at, b'\n')
+    put(rt, text, at, b'\n')
 }
 
 // Answers a call of this file.
-pub fn answer(line: Line, font: &[u16], text: &mut [u8; TEXT], at: usize) -> usize
+pub fn answer(rt: &impl Print, line: Line, font: &[u16], text: &mut [u8; TEXT], at: usize) -> usize
     ensures { Puts text at (font_answer line font.now) result }
 {
     if line.command == names::CHECK {
-        return check(line, font, text, at);
+        return check(rt, line, font, text, at);
     }
     if line.command == names::GLYPH {
-        return glyph(line, font, text, at);
+        return glyph(rt, line, font, text, at);
     }
     if line.command == names::DOTS {
-        return dots(line, font, text, at);
+        return dots(rt, line, font, text, at);
     }
     if line.command == names::ROW {
-        return row(line, font, text, at);
+        return row(rt, line, font, text, at);
     }
     at
 }

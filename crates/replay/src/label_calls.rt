@@ -40,14 +40,20 @@ fn substitutes(reply: Reply) -> u32
 }
 
 // The whole answer of a call on a label.
-pub fn put_reply(text: &mut [u8; TEXT], at: usize, line: Line, reply: Reply) -> usize
+pub fn put_reply(
+    rt: &impl Print,
+    text: &mut [u8; TEXT],
+    at: usize,
+    line: Line,
+    reply: Reply,
+) -> usize
     ensures { Puts text at (reply_bytes line.command reply) result }
 {
-    let at = put_name(text, at, line.command);
-    let at = put_number(text, at, refusal(reply) as u64);
-    let at = put_signed(text, at, last_pen(reply));
-    let at = put_number(text, at, substitutes(reply) as u64);
-    put(text, at, b'\n')
+    let at = put_name(rt, text, at, line.command);
+    let at = put_number(rt, text, at, refusal(reply) as u64);
+    let at = put_signed(rt, text, at, last_pen(reply));
+    let at = put_number(rt, text, at, substitutes(reply) as u64);
+    put(rt, text, at, b'\n')
 }
 
 // The shape of a panel, from the numbers of a line, the first of them number `first`, which is at most 5.
@@ -89,6 +95,7 @@ fn paint(line: Line, font: &[u16], text: &[u8], panel: &mut [u16]) -> Reply
 
 // Answers a call of this file.
 pub fn answer(
+    rt: &impl Print,
     line: Line,
     font: &[u16],
     label: &[u8],
@@ -100,11 +107,11 @@ pub fn answer(
     ensures { Puts text at (label_answer line font.now label.now held lent.old) result }
 {
     if line.command == names::MEASURE {
-        return put_reply(text, at, line, measure(line, font, label));
+        return put_reply(rt, text, at, line, measure(line, font, label));
     }
     if line.command == names::PAINT {
         let panel = lent_words(lent, held, names::PANEL);
-        return put_reply(text, at, line, paint(line, font, label, panel));
+        return put_reply(rt, text, at, line, paint(line, font, label, panel));
     }
     at
 }

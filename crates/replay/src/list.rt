@@ -4,14 +4,14 @@ ghost use Rattle.replay.specs.Lines.{empty_line, without_line, nothing_read, all
 ghost use Rattle.replay.specs.Lines.{unsigned_at, signed_at, counted_of, number_of, signed_of};
 
 use crate::names;
-use libc::STDIN_FILENO;
+use std::io;
 
 pub const INPUT: usize = 65_536;
 
 pub const VALUES: usize = 530_000;
 
 // The field so far. What it is, a name, a number or a value, is known only where it ends, so it is read as each.
-#[derive(Drop)]
+#[derive(Clone, Copy)]
 struct Field {
     name: u64,
     digits: u64,
@@ -23,7 +23,7 @@ struct Field {
 }
 
 // A field as far as a buffer has it, the byte that ends it, and the place behind that byte; place 0 where the buffer ends before.
-#[derive(Drop)]
+#[derive(Clone, Copy)]
 struct Piece {
     field: Field,
     end: u8,
@@ -32,7 +32,7 @@ struct Piece {
 
 // A whole field, and the byte that ends it. What has been read behind it stands in the buffer, from a place up to another. At the end of
 // the list there is no field.
-#[derive(Drop)]
+#[derive(Clone, Copy)]
 struct Ended {
     field: Field,
     end: u8,
@@ -42,7 +42,7 @@ struct Ended {
 }
 
 // The line so far. Its values stand in an array of their own, as so many words.
-#[derive(Drop)]
+#[derive(Clone, Copy)]
 pub struct Line {
     pub command: u64,
     fields: usize,
@@ -54,7 +54,7 @@ pub struct Line {
 }
 
 // A whole line, and what has been read behind it. At the end of the list there is no line.
-#[derive(Drop)]
+#[derive(Clone, Copy)]
 pub struct Read {
     pub line: Line,
     pub over: bool,
@@ -174,14 +174,21 @@ fn scan(buffer: &[u8], from: usize, upto: usize, begun: Field) -> Piece {
 }
 
 // Reads more of the list, and answers how many bytes; 0 at its end.
-fn read_some(buffer: &mut [u8; INPUT]) -> usize {
-    let got = libc::read(STDIN_FILENO, buffer);
-    io::count(got, buffer)
+fn read_some(list: &mut impl io::Read, buffer: &mut [u8; INPUT]) -> usize {
+    match list.read(buffer) {
+        Ok(count) => count,
+        Err(_) => 0,
+    }
 }
 
 // The next field. A proved loop has to end, and nothing says that a list does: the turns are counted down from a number that no run uses
 // up.
-fn next_field(buffer: &mut [u8; INPUT], begin: usize, end: usize) -> Ended {
+fn next_field(
+    list: &mut impl io::Read,
+    buffer: &mut [u8; INPUT],
+    begin: usize,
+    end: usize,
+) -> Ended {
     let mut field = Field::empty();
     let mut from = begin;
     let mut upto = end;
@@ -200,7 +207,7 @@ fn next_field(buffer: &mut [u8; INPUT], begin: usize, end: usize) -> Ended {
             };
         }
         from = 0;
-        upto = read_some(buffer);
+        upto = read_some(list, buffer);
         if upto == 0 {
             return Ended::over();
         }
@@ -361,7 +368,12 @@ impl Read {
 }
 
 // The line behind the one read before; turns are counted as for a field.
-pub fn next_line(before: Read, buffer: &mut [u8; INPUT], values: &mut [u16; VALUES]) -> Read
+pub fn next_line(
+    list: &mut impl io::Read,
+    before: Read,
+    buffer: &mut [u8; INPUT],
+    values: &mut [u16; VALUES],
+) -> Read
     ensures { result.over ≡ true → result ≡ all_read }
 {
     let mut line = Line::empty();
@@ -370,7 +382,7 @@ pub fn next_line(before: Read, buffer: &mut [u8; INPUT], values: &mut [u16; VALU
     let mut turns = u64::MAX;
     while 0 < turns {
         turns -= 1;
-        let ended = next_field(buffer, from, upto);
+        let ended = next_field(list, buffer, from, upto);
         if ended.over {
             return Read::over();
         }

@@ -6,7 +6,7 @@ ghost use Rattle.std.specs.Prelude.{◌≡◌, ◌%◌, length};
 ghost use Rattle.replay.specs.Text.{Puts, list_bytes};
 ghost use Rattle.replay.specs.Answers.{widen_after, shown_bytes, register_bytes, values_spread, show_answer, values_shown};
 ghost use Rattle.replay.specs.Registers.{register, register_of, nothing_held, held_by, held_with, held_written, words_of};
-ghost use Rattle.replay.specs.Registers.{copied, copy_after, narrowed, narrow_after, at_entry, at_exit, held_after, arrays_after};
+ghost use Rattle.replay.specs.Registers.{copied, copy_after, narrowed, narrow_after, arrays, at_entry, at_exit, held_after, arrays_after};
 ghost use Rattle.replay.specs.Registers.{kept_after, files_kept, held_from_written, values_from_written, files_from_written};
 ghost use Rattle.replay.specs.Registers.{held_with_counts, lent_with_counts};
 ghost use Rattle.replay.specs.Names.{panel};
@@ -31,7 +31,7 @@ pub const SLICE: usize = 40_000;
 
 pub const BYTES: usize = 140_000;
 
-#[derive(Drop)]
+#[derive(Clone, Copy)]
 enum Array {
     Files,
     Lent,
@@ -42,7 +42,7 @@ enum Array {
 }
 
 // Where a register stands, how much it has room for, and which of the counts is its own.
-#[derive(Drop)]
+#[derive(Clone, Copy)]
 struct Register {
     array: Array,
     from: usize,
@@ -51,7 +51,7 @@ struct Register {
 }
 
 // How many words each register holds, of `file` bytes; and how many the last conversion wrote.
-#[derive(Drop)]
+#[derive(Clone, Copy)]
 pub struct Held {
     counts: [usize; 10],
     written: usize,
@@ -214,6 +214,7 @@ pub fn set(
 
 // Shows the register that a line asks for. The bytes of `file` are spread over words, which stand where a line's values would.
 pub fn show(
+    rt: &impl Print,
     line: Line,
     values: &mut [u16; VALUES],
     held: Held,
@@ -225,7 +226,7 @@ pub fn show(
     text: &mut [u8; TEXT],
     at: usize,
 ) -> usize
-    ensures puts { Puts text at (show_answer line values.old held (at_entry files lent keeps flips bytes)) result }
+    ensures puts { Puts text at (show_answer line values.old held (arrays files.now lent.now keeps.now flips.now bytes.now)) result }
     ensures values { values.new ≡ values_shown line values.old held bytes.now }
 {
     if line.command != names::SHOW {
@@ -233,13 +234,16 @@ pub fn show(
     }
     let r = Register::named(line.name);
     let count = held.of(r);
-    let at = put_name(text, at, line.name);
-    let at = put_register(r, count, values, files, lent, keeps, flips, bytes, text, at);
-    put(text, at, b'\n')
+    let at = put_name(rt, text, at, line.name);
+    let at = put_register(
+        rt, r, count, values, files, lent, keeps, flips, bytes, text, at,
+    );
+    put(rt, text, at, b'\n')
 }
 
 // What a register holds, of so many words.
 fn put_register(
+    rt: &impl Print,
     r: Register,
     count: usize,
     values: &mut [u16; VALUES],
@@ -251,21 +255,23 @@ fn put_register(
     text: &mut [u8; TEXT],
     at: usize,
 ) -> usize
-    ensures puts { Puts text at (register_bytes r.array r count values.old (at_entry files lent keeps flips bytes)) result }
+    ensures puts { Puts text at
+        (register_bytes r.array r count values.old (arrays files.now lent.now keeps.now flips.now bytes.now)) result }
     ensures values { values.new ≡ values_spread r.array count values.old bytes.now }
 {
     let array = r.array;
     match array {
-        Array::Files => put_list(text, at, words::part(files, r.from, count), 4),
-        Array::Lent => put_list(text, at, words::part(lent, r.from, count), 4),
-        Array::Keeps => put_list(text, at, words::part(keeps, r.from, count), 4),
-        Array::Flips => put_list(text, at, words::part(flips, r.from, count), 4),
-        Array::Bytes => put_bytes(text, at, bytes, count, values),
+        Array::Files => put_list(rt, text, at, words::part(files, r.from, count), 4),
+        Array::Lent => put_list(rt, text, at, words::part(lent, r.from, count), 4),
+        Array::Keeps => put_list(rt, text, at, words::part(keeps, r.from, count), 4),
+        Array::Flips => put_list(rt, text, at, words::part(flips, r.from, count), 4),
+        Array::Bytes => put_bytes(rt, text, at, bytes, count, values),
         Array::Nowhere => at,
     }
 }
 
 fn put_bytes(
+    rt: &impl Print,
     text: &mut [u8; TEXT],
     at: usize,
     bytes: &[u8],
@@ -276,7 +282,7 @@ fn put_bytes(
     ensures values { values.new ≡ widen_after bytes.now count values.old }
 {
     let spread = widen(bytes, count, values);
-    put_list(text, at, words::part(values, 0, spread), 2)
+    put_list(rt, text, at, words::part(values, 0, spread), 2)
 }
 
 // The words of a register, as a part of the array that it stands in.

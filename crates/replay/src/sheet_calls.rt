@@ -15,12 +15,18 @@ use crate::{State, names, registers};
 use paint::Reply;
 
 // The whole answer of a call that answers the number alone.
-pub fn put_refusal(text: &mut [u8; TEXT], at: usize, line: Line, number: u32) -> usize
+pub fn put_refusal(
+    rt: &impl Print,
+    text: &mut [u8; TEXT],
+    at: usize,
+    line: Line,
+    number: u32,
+) -> usize
     ensures { Puts text at (refusal_bytes line.command number) result }
 {
-    let at = put_name(text, at, line.command);
-    let at = put_number(text, at, number as u64);
-    put(text, at, b'\n')
+    let at = put_name(rt, text, at, line.command);
+    let at = put_number(rt, text, at, number as u64);
+    put(rt, text, at, b'\n')
 }
 
 fn gather(line: Line, font: &[u16], text: &[u8], keep: &mut [u16], flip: &mut [u16]) -> Reply
@@ -57,6 +63,7 @@ fn join(
 
 // Answers `join`.
 pub fn answer_join(
+    rt: &impl Print,
     line: Line,
     values: &mut [u16; VALUES],
     state: State,
@@ -69,13 +76,15 @@ pub fn answer_join(
 {
     let held = state.held;
     if line.command == names::JOIN {
-        return put_refusal(text, state.at, line, join(line, values, held, keeps, flips));
+        let number = join(line, values, held, keeps, flips);
+        return put_refusal(rt, text, state.at, line, number);
     }
     state.at
 }
 
 // Answers `gather`.
 pub fn answer_gather(
+    rt: &impl Print,
     line: Line,
     font: &[u16],
     codes: &[u8],
@@ -93,11 +102,13 @@ pub fn answer_gather(
     let sheet = line.number(0);
     let keep = registers::lent_words(keeps, held, names::keep_of(sheet));
     let flip = registers::lent_words(flips, held, names::flip_of(sheet));
-    put_reply(text, state.at, line, gather(line, font, codes, keep, flip))
+    let reply = gather(line, font, codes, keep, flip);
+    put_reply(rt, text, state.at, line, reply)
 }
 
 // Answers `fresh` and `apply`.
 pub fn answer(
+    rt: &impl Print,
     line: Line,
     state: State,
     lent: &mut [u16],
@@ -113,16 +124,13 @@ pub fn answer(
     let keep = registers::lent_words(keeps, held, names::keep_of(sheet));
     let flip = registers::lent_words(flips, held, names::flip_of(sheet));
     if line.command == names::FRESH {
-        return put_refusal(text, at, line, sheets::fresh(shape(line, 1), keep, flip));
+        let number = sheets::fresh(shape(line, 1), keep, flip);
+        return put_refusal(rt, text, at, line, number);
     }
     if line.command == names::APPLY {
         let panel = registers::lent_words(lent, held, names::PANEL);
-        return put_refusal(
-            text,
-            at,
-            line,
-            sheets::apply(shape(line, 1), keep, flip, panel),
-        );
+        let number = sheets::apply(shape(line, 1), keep, flip, panel);
+        return put_refusal(rt, text, at, line, number);
     }
     at
 }

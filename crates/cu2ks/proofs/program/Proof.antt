@@ -4,7 +4,7 @@ use mathlib.Core.Path.{◌≡◌, sym, ap, ◌∙◌}
 use native.Mathlib.Omega.{arith}
 use lib.ListN.{length, replicate, length-replicate}
 use borrow.Author.Rules.{rules}
-use Rattle.io.proofs.Counting.{prefix_len_of_le}
+use Rattle.reading.proofs.Counting.{prefix_len_of_le}
 use Rattle.words.specs.Word.{words_of}
 use Rattle.convert.specs.Conversion.{conversion_of}
 use Rattle.cu2ks.proofs.Answering.{bytes-refused, refusal, words-refused, printing, few_bytes}

@@ -4,7 +4,7 @@ use mathlib.Core.Path.{sym, ◌∙◌}
 use mathlib.Core.List.{List}
 use lib.ListN.{length}
 use native.Mathlib.Omega.{arith}
-use Rattle.io.proofs.Counting.{prefix_len_of_le}
+use Rattle.reading.proofs.Counting.{prefix_len_of_le}
 use Rattle.paint.specs.declared.Shape.{Shape}
 use Rattle.preview.proofs.Putting.{put-none, first_counted}
 use Rattle.preview.proofs.Pictures.{no-picture, a-picture, few_words}
