@@ -18,7 +18,8 @@ use Rattle.convert.specs.declared.Conversion.{Conversion}
 use Rattle.convert.specs.declared.Conversion.TheVariants.{Written, Refused}
 use Rattle.convert.specs.Writing.{file_of, file_words, drawing_number}
 use Rattle.convert.specs.Cu.{drawing_of, cu_file_number}
-use Rattle.convert.specs.Conversion.{bytes_number, cu_number, conversion_of, conversion_number, words_written, output_after, program_number, program_output}
+use Rattle.convert.specs.Conversion.{bytes_number, cu_number, conversion_of, conversion_number, words_written, output_after, program_number}
+use Rattle.convert.specs.Conversion.{program_output}
 use Rattle.convert.proofs.File.{file-length}
 use Rattle.convert.proofs.Accepting.{good-drawing}
 use Rattle.cu2ks.specs.declared.Answer.{Answer}
@@ -64,7 +65,8 @@ module _ (bytes : List ℕ) where
   nothing-printed n e h = rw (← e, ne_eqb n 0 h)
 
   pub refusal : (n : ℕ) (printed : List ℕ) → n ≡ program_number bytes → (n ≡ 0 → ⊥)
-      → (record { number = n; bytes = 0 } ≡ answer_of bytes) × (printed ≡ program_output bytes ++ drop (length (program_output bytes)) printed)
+      → (record { number = n; bytes = 0 } ≡ answer_of bytes)
+      × (printed ≡ program_output bytes ++ drop (length (program_output bytes)) printed)
   refusal n printed e h =
       let none = nothing-printed n e h in
       (answer-is n 0 e (sym (ap length none)), rw none)
@@ -79,7 +81,8 @@ module _ (bytes : List ℕ) where
   unfolding conversion_of
   accepted w e = told (eqb (cu_number ws 32768) 0) refl e
     where
-      told : (t : Bool) → eqb (cu_number ws 32768) 0 ≡ t → Written w ≡ cond t (Written (file_words (drawing_of ws))) (Refused (cu_number ws 32768))
+      told : (t : Bool) → eqb (cu_number ws 32768) 0 ≡ t
+          → Written w ≡ cond t (Written (file_words (drawing_of ws))) (Refused (cu_number ws 32768))
           → (cu_number ws 32768 ≡ 0) × (w ≡ file_words (drawing_of ws))
       told true q e = (eqb-true (cu_number ws 32768) 0 q, ap words_written e)
       told false q e = absurd (true≢false (ap is_written e))
@@ -88,7 +91,8 @@ module _ (bytes : List ℕ) where
   unfolding conversion_of
   denied n e = told (eqb (cu_number ws 32768) 0) refl e
     where
-      told : (t : Bool) → eqb (cu_number ws 32768) 0 ≡ t → Refused n ≡ cond t (Written (file_words (drawing_of ws))) (Refused (cu_number ws 32768))
+      told : (t : Bool) → eqb (cu_number ws 32768) 0 ≡ t
+          → Refused n ≡ cond t (Written (file_words (drawing_of ws))) (Refused (cu_number ws 32768))
           → (n ≡ cu_number ws 32768) × (n ≡ 0 → ⊥)
       told true q e = absurd (true≢false (sym (ap is_written e)))
       told false q e =
@@ -108,7 +112,8 @@ module _ (bytes : List ℕ) where
   unfolding cu_number
   room_for e = (good-drawing (drawing_of ws) 32768 (stages-passed (cu_file_number ws) (drawing_number (drawing_of ws) 32768) e).1).has_room
 
-  written-first : (out : List ℕ) → length out ≡ 32768 → cu_number ws 32768 ≡ 0 → take (file_words (drawing_of ws)) (output_after ws out) ≡ file_of (drawing_of ws)
+  written-first : (out : List ℕ) → length out ≡ 32768 → cu_number ws 32768 ≡ 0
+      → take (file_words (drawing_of ws)) (output_after ws out) ≡ file_of (drawing_of ws)
   unfolding output_after
   written-first out long e =
       rw (long, eq-eqb (cu_number ws 32768) 0 e)
@@ -141,7 +146,8 @@ module _ (bytes : List ℕ) where
     printed-is : bytes_of file ≡ program_output bytes
     printed-is = ap bytes_of file-is ∙ sym (output-is (sym (bytes-passed 0 z (sym (accepted w e).0))))
 
-    pub printing : (record { number = 0; bytes = n } ≡ answer_of bytes) × (printed ≡ program_output bytes ++ drop (length (program_output bytes)) room) × (n ≤ length printed)
+    pub printing : (record { number = 0; bytes = n } ≡ answer_of bytes)
+        × (printed ≡ program_output bytes ++ drop (length (program_output bytes)) room) × (n ≤ length printed)
     printing =
         let few = fits in
         let same = ap length spelling ∙ over-length (min (2 * length file) (length room)) (word (bytes_of file)) room in

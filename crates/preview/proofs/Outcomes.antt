@@ -5,7 +5,12 @@ use mathlib.Core.Bool.{Bool, true, false, cond}
 use mathlib.Core.List.{List, []}
 use Prim.Native.Nat.{ℕ}
 use contract.Lifetimes.{Lfts}
+use denote.Param.Laws.{Laws}
+use denote.RattleType.{RattleType}
 use denote.Triple.Clauses.{AtExit}
+use mir.Syntax.{Dict}
+use Rattle.std.specs.declared.io.Eprint as Eprint
+use Rattle.std.specs.declared.io.Read as Read
 use borrow.Fn.Kinds.{Dens, res_t, ended_of}
 use Rattle.words.proofs.Outcomes.{OneReply}
 use Rattle.preview.specs.Line.{counted}
@@ -72,15 +77,22 @@ first-of-one κs a r o e e' p q = p ∙ sym q
 
 -- ---- painting
 
--- where the same bytes were read and the reads went as well: the same panel is left, and the same counts
-pub paint-lines-one : (κs : Lfts 2) (a : Dens κs paint-lines.Kinds.ps) (r o : (res_t paint-lines.Kinds.r κs).Denot)
-    (e e' : AtExit (ended_of 2 paint-lines.Kinds.ps paint-lines.Kinds.r) κs)
-    (p : paint-lines.Reads.Post κs a r e) (q : paint-lines.Reads.Post κs a o e')
-    → r.whole ≡ o.whole → p.read ≡ q.read → counted e.1.1.0.now r.counts ≡ counted e'.1.1.0.now o.counts
-paint-lines-one κs a r o e e' p q same-reply same_bytes =
-    p.paints
-    ∙ ap₂
-    (λ (t : Bool) (l : List ℕ). after_lines a.0.now a.1.0 (cond t (lines_of l) (ended [] l)) (counted a.1.1.0.now zeros))
-    same-reply
-    same_bytes
-    ∙ sym q.paints
+-- where the same bytes were read and the reads went as well: the same panel is left, and the same counts, whatever the runtime that the
+-- messages are said by and the reader that the lines come from
+module _ (runtime reader : RattleType) (laws : Laws runtime) (reader_laws : Laws reader)
+    (eprint : Eprint.Ghosts runtime.Denot) (dict : Dict) (read : Read.Ghosts reader.Denot) (read_dict : Dict) where
+  pub paint-lines-one : (κs : Lfts 6) (a : Dens κs (paint-lines.Kinds.ps runtime reader laws reader_laws))
+      (r o : (res_t (paint-lines.Kinds.r runtime reader laws reader_laws) κs).Denot)
+      (e e' : AtExit
+      (ended_of 6 (paint-lines.Kinds.ps runtime reader laws reader_laws) (paint-lines.Kinds.r runtime reader laws reader_laws)) κs)
+      (p : paint-lines.Reads.Post runtime reader laws reader_laws eprint dict read read_dict κs a r e)
+      (q : paint-lines.Reads.Post runtime reader laws reader_laws eprint dict read read_dict κs a o e')
+      → r.whole ≡ o.whole → p.read ≡ q.read → counted e.1.1.1.1.0.now r.counts ≡ counted e'.1.1.1.1.0.now o.counts
+  paint-lines-one κs a r o e e' p q same-reply same_bytes =
+      p.paints
+      ∙ ap₂
+      (λ (t : Bool) (l : List ℕ).
+      after_lines a.1.1.0.now a.1.1.1.0 (cond t (lines_of l) (ended [] l)) (counted a.1.1.1.1.0.now zeros))
+      same-reply
+      same_bytes
+      ∙ sym q.paints

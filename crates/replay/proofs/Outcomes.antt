@@ -1,7 +1,11 @@
 -- Two outcomes that a contract permits are equal: the reply, and every word of what is lent; of a part that is handed back, its words.
 use mathlib.Core.Path.{◌≡◌, sym, ap, ◌∙◌}
 use contract.Lifetimes.{Lfts}
+use denote.Param.Laws.{Laws}
+use denote.RattleType.{RattleType}
 use denote.Triple.Clauses.{AtExit}
+use mir.Syntax.{Dict}
+use Rattle.std.specs.declared.io.Print.{Ghosts}
 use borrow.Fn.Kinds.{Dens, res_t, ended_of}
 use Rattle.words.proofs.Outcomes.{OneReply}
 use Rattle.replay.specs.Registers.{Arrays}
@@ -140,148 +144,164 @@ set-one κs a r o e e' p q =
       ap (λ (x : Arrays). x.bytes) same,
     )
 
--- The reply, and every byte of the text; where a line's values are altered, those too. The registers that a call alters are lent to it by
--- a part that is handed back, and no contract says what becomes of the array behind such a part.
-pub put_one : (κs : Lfts 1) (a : Dens κs put.Kinds.ps) (r o : (res_t put.Kinds.r κs).Denot)
-    (e e' : AtExit (ended_of 1 put.Kinds.ps put.Kinds.r) κs)
-    → put.Reads.Post κs a r e → put.Reads.Post κs a o e'
-    → (r ≡ o) × (e.0.now ≡ e'.0.now)
-put_one κs a r o e e' p q =
-    let same = p ∙ sym q in
-    (ap (λ (w : Waiting). w.1) same, ap (λ (w : Waiting). w.0) same)
+-- The reply, and every byte of the text, whatever the runtime that the text is written by; where a line's values are altered, those too.
+-- The
+-- registers that a call alters are lent to it by a part that is handed back, and no contract says what becomes of the array behind such a
+-- part.
+module _ (runtime : RattleType) (laws : Laws runtime) (print : Ghosts runtime.Denot) (dict : Dict) where
+  pub put_one : (κs : Lfts 3) (a : Dens κs (put.Kinds.ps runtime laws)) (r o : (res_t (put.Kinds.r runtime laws) κs).Denot)
+      (e e' : AtExit (ended_of 3 (put.Kinds.ps runtime laws) (put.Kinds.r runtime laws)) κs)
+      → put.Reads.Post runtime laws print dict κs a r e → put.Reads.Post runtime laws print dict κs a o e'
+      → (r ≡ o) × (e.1.0.now ≡ e'.1.0.now)
+  put_one κs a r o e e' p q =
+      let same = p ∙ sym q in
+      (ap (λ (w : Waiting). w.1) same, ap (λ (w : Waiting). w.0) same)
 
-pub put-name-one : (κs : Lfts 1) (a : Dens κs put-name.Kinds.ps) (r o : (res_t put-name.Kinds.r κs).Denot)
-    (e e' : AtExit (ended_of 1 put-name.Kinds.ps put-name.Kinds.r) κs)
-    → put-name.Reads.Post κs a r e → put-name.Reads.Post κs a o e'
-    → (r ≡ o) × (e.0.now ≡ e'.0.now)
-put-name-one κs a r o e e' p q =
-    let same = p ∙ sym q in
-    (ap (λ (w : Waiting). w.1) same, ap (λ (w : Waiting). w.0) same)
+  pub put-name-one : (κs : Lfts 3) (a : Dens κs (put-name.Kinds.ps runtime laws)) (r o : (res_t (put-name.Kinds.r runtime laws) κs).Denot)
+      (e e' : AtExit (ended_of 3 (put-name.Kinds.ps runtime laws) (put-name.Kinds.r runtime laws)) κs)
+      → put-name.Reads.Post runtime laws print dict κs a r e → put-name.Reads.Post runtime laws print dict κs a o e'
+      → (r ≡ o) × (e.1.0.now ≡ e'.1.0.now)
+  put-name-one κs a r o e e' p q =
+      let same = p ∙ sym q in
+      (ap (λ (w : Waiting). w.1) same, ap (λ (w : Waiting). w.0) same)
 
-pub put-number-one : (κs : Lfts 1) (a : Dens κs put-number.Kinds.ps) (r o : (res_t put-number.Kinds.r κs).Denot)
-    (e e' : AtExit (ended_of 1 put-number.Kinds.ps put-number.Kinds.r) κs)
-    → put-number.Reads.Post κs a r e → put-number.Reads.Post κs a o e'
-    → (r ≡ o) × (e.0.now ≡ e'.0.now)
-put-number-one κs a r o e e' p q =
-    let same = p ∙ sym q in
-    (ap (λ (w : Waiting). w.1) same, ap (λ (w : Waiting). w.0) same)
+  pub put-number-one : (κs : Lfts 3) (a : Dens κs (put-number.Kinds.ps runtime laws))
+      (r o : (res_t (put-number.Kinds.r runtime laws) κs).Denot)
+      (e e' : AtExit (ended_of 3 (put-number.Kinds.ps runtime laws) (put-number.Kinds.r runtime laws)) κs)
+      → put-number.Reads.Post runtime laws print dict κs a r e → put-number.Reads.Post runtime laws print dict κs a o e'
+      → (r ≡ o) × (e.1.0.now ≡ e'.1.0.now)
+  put-number-one κs a r o e e' p q =
+      let same = p ∙ sym q in
+      (ap (λ (w : Waiting). w.1) same, ap (λ (w : Waiting). w.0) same)
 
-pub put-negative-one : (κs : Lfts 1) (a : Dens κs put-negative.Kinds.ps) (r o : (res_t put-negative.Kinds.r κs).Denot)
-    (e e' : AtExit (ended_of 1 put-negative.Kinds.ps put-negative.Kinds.r) κs)
-    → put-negative.Reads.Post κs a r e → put-negative.Reads.Post κs a o e'
-    → (r ≡ o) × (e.0.now ≡ e'.0.now)
-put-negative-one κs a r o e e' p q =
-    let same = p ∙ sym q in
-    (ap (λ (w : Waiting). w.1) same, ap (λ (w : Waiting). w.0) same)
+  pub put-negative-one : (κs : Lfts 3) (a : Dens κs (put-negative.Kinds.ps runtime laws))
+      (r o : (res_t (put-negative.Kinds.r runtime laws) κs).Denot)
+      (e e' : AtExit (ended_of 3 (put-negative.Kinds.ps runtime laws) (put-negative.Kinds.r runtime laws)) κs)
+      → put-negative.Reads.Post runtime laws print dict κs a r e → put-negative.Reads.Post runtime laws print dict κs a o e'
+      → (r ≡ o) × (e.1.0.now ≡ e'.1.0.now)
+  put-negative-one κs a r o e e' p q =
+      let same = p ∙ sym q in
+      (ap (λ (w : Waiting). w.1) same, ap (λ (w : Waiting). w.0) same)
 
-pub put-signed-one : (κs : Lfts 1) (a : Dens κs put-signed.Kinds.ps) (r o : (res_t put-signed.Kinds.r κs).Denot)
-    (e e' : AtExit (ended_of 1 put-signed.Kinds.ps put-signed.Kinds.r) κs)
-    → put-signed.Reads.Post κs a r e → put-signed.Reads.Post κs a o e'
-    → (r ≡ o) × (e.0.now ≡ e'.0.now)
-put-signed-one κs a r o e e' p q =
-    let same = p ∙ sym q in
-    (ap (λ (w : Waiting). w.1) same, ap (λ (w : Waiting). w.0) same)
+  pub put-signed-one : (κs : Lfts 3) (a : Dens κs (put-signed.Kinds.ps runtime laws))
+      (r o : (res_t (put-signed.Kinds.r runtime laws) κs).Denot)
+      (e e' : AtExit (ended_of 3 (put-signed.Kinds.ps runtime laws) (put-signed.Kinds.r runtime laws)) κs)
+      → put-signed.Reads.Post runtime laws print dict κs a r e → put-signed.Reads.Post runtime laws print dict κs a o e'
+      → (r ≡ o) × (e.1.0.now ≡ e'.1.0.now)
+  put-signed-one κs a r o e e' p q =
+      let same = p ∙ sym q in
+      (ap (λ (w : Waiting). w.1) same, ap (λ (w : Waiting). w.0) same)
 
-pub put-value-one : (κs : Lfts 1) (a : Dens κs put-value.Kinds.ps) (r o : (res_t put-value.Kinds.r κs).Denot)
-    (e e' : AtExit (ended_of 1 put-value.Kinds.ps put-value.Kinds.r) κs)
-    → put-value.Reads.Post κs a r e → put-value.Reads.Post κs a o e'
-    → (r ≡ o) × (e.0.now ≡ e'.0.now)
-put-value-one κs a r o e e' p q =
-    let same = p ∙ sym q in
-    (ap (λ (w : Waiting). w.1) same, ap (λ (w : Waiting). w.0) same)
+  pub put-value-one : (κs : Lfts 3) (a : Dens κs (put-value.Kinds.ps runtime laws))
+      (r o : (res_t (put-value.Kinds.r runtime laws) κs).Denot)
+      (e e' : AtExit (ended_of 3 (put-value.Kinds.ps runtime laws) (put-value.Kinds.r runtime laws)) κs)
+      → put-value.Reads.Post runtime laws print dict κs a r e → put-value.Reads.Post runtime laws print dict κs a o e'
+      → (r ≡ o) × (e.1.0.now ≡ e'.1.0.now)
+  put-value-one κs a r o e e' p q =
+      let same = p ∙ sym q in
+      (ap (λ (w : Waiting). w.1) same, ap (λ (w : Waiting). w.0) same)
 
-pub put-list-one : (κs : Lfts 2) (a : Dens κs put-list.Kinds.ps) (r o : (res_t put-list.Kinds.r κs).Denot)
-    (e e' : AtExit (ended_of 2 put-list.Kinds.ps put-list.Kinds.r) κs)
-    → put-list.Reads.Post κs a r e → put-list.Reads.Post κs a o e'
-    → (r ≡ o) × (e.0.now ≡ e'.0.now)
-put-list-one κs a r o e e' p q =
-    let same = p ∙ sym q in
-    (ap (λ (w : Waiting). w.1) same, ap (λ (w : Waiting). w.0) same)
+  pub put-list-one : (κs : Lfts 4) (a : Dens κs (put-list.Kinds.ps runtime laws)) (r o : (res_t (put-list.Kinds.r runtime laws) κs).Denot)
+      (e e' : AtExit (ended_of 4 (put-list.Kinds.ps runtime laws) (put-list.Kinds.r runtime laws)) κs)
+      → put-list.Reads.Post runtime laws print dict κs a r e → put-list.Reads.Post runtime laws print dict κs a o e'
+      → (r ≡ o) × (e.1.0.now ≡ e'.1.0.now)
+  put-list-one κs a r o e e' p q =
+      let same = p ∙ sym q in
+      (ap (λ (w : Waiting). w.1) same, ap (λ (w : Waiting). w.0) same)
 
-pub put-reply-one : (κs : Lfts 1) (a : Dens κs put-reply.Kinds.ps) (r o : (res_t put-reply.Kinds.r κs).Denot)
-    (e e' : AtExit (ended_of 1 put-reply.Kinds.ps put-reply.Kinds.r) κs)
-    → put-reply.Reads.Post κs a r e → put-reply.Reads.Post κs a o e'
-    → (r ≡ o) × (e.0.now ≡ e'.0.now)
-put-reply-one κs a r o e e' p q =
-    let same = p ∙ sym q in
-    (ap (λ (w : Waiting). w.1) same, ap (λ (w : Waiting). w.0) same)
+  pub put-reply-one : (κs : Lfts 3) (a : Dens κs (put-reply.Kinds.ps runtime laws))
+      (r o : (res_t (put-reply.Kinds.r runtime laws) κs).Denot)
+      (e e' : AtExit (ended_of 3 (put-reply.Kinds.ps runtime laws) (put-reply.Kinds.r runtime laws)) κs)
+      → put-reply.Reads.Post runtime laws print dict κs a r e → put-reply.Reads.Post runtime laws print dict κs a o e'
+      → (r ≡ o) × (e.1.0.now ≡ e'.1.0.now)
+  put-reply-one κs a r o e e' p q =
+      let same = p ∙ sym q in
+      (ap (λ (w : Waiting). w.1) same, ap (λ (w : Waiting). w.0) same)
 
-pub put-refusal-one : (κs : Lfts 1) (a : Dens κs put-refusal.Kinds.ps) (r o : (res_t put-refusal.Kinds.r κs).Denot)
-    (e e' : AtExit (ended_of 1 put-refusal.Kinds.ps put-refusal.Kinds.r) κs)
-    → put-refusal.Reads.Post κs a r e → put-refusal.Reads.Post κs a o e'
-    → (r ≡ o) × (e.0.now ≡ e'.0.now)
-put-refusal-one κs a r o e e' p q =
-    let same = p ∙ sym q in
-    (ap (λ (w : Waiting). w.1) same, ap (λ (w : Waiting). w.0) same)
+  pub put-refusal-one : (κs : Lfts 3) (a : Dens κs (put-refusal.Kinds.ps runtime laws))
+      (r o : (res_t (put-refusal.Kinds.r runtime laws) κs).Denot)
+      (e e' : AtExit (ended_of 3 (put-refusal.Kinds.ps runtime laws) (put-refusal.Kinds.r runtime laws)) κs)
+      → put-refusal.Reads.Post runtime laws print dict κs a r e → put-refusal.Reads.Post runtime laws print dict κs a o e'
+      → (r ≡ o) × (e.1.0.now ≡ e'.1.0.now)
+  put-refusal-one κs a r o e e' p q =
+      let same = p ∙ sym q in
+      (ap (λ (w : Waiting). w.1) same, ap (λ (w : Waiting). w.0) same)
 
-pub font-answer-one : (κs : Lfts 2) (a : Dens κs font-answer.Kinds.ps) (r o : (res_t font-answer.Kinds.r κs).Denot)
-    (e e' : AtExit (ended_of 2 font-answer.Kinds.ps font-answer.Kinds.r) κs)
-    → font-answer.Reads.Post κs a r e → font-answer.Reads.Post κs a o e'
-    → (r ≡ o) × (e.1.1.0.now ≡ e'.1.1.0.now)
-font-answer-one κs a r o e e' p q =
-    let same = p ∙ sym q in
-    (ap (λ (w : Waiting). w.1) same, ap (λ (w : Waiting). w.0) same)
+  pub font-answer-one : (κs : Lfts 4) (a : Dens κs (font-answer.Kinds.ps runtime laws))
+      (r o : (res_t (font-answer.Kinds.r runtime laws) κs).Denot)
+      (e e' : AtExit (ended_of 4 (font-answer.Kinds.ps runtime laws) (font-answer.Kinds.r runtime laws)) κs)
+      → font-answer.Reads.Post runtime laws print dict κs a r e → font-answer.Reads.Post runtime laws print dict κs a o e'
+      → (r ≡ o) × (e.1.1.1.0.now ≡ e'.1.1.1.0.now)
+  font-answer-one κs a r o e e' p q =
+      let same = p ∙ sym q in
+      (ap (λ (w : Waiting). w.1) same, ap (λ (w : Waiting). w.0) same)
 
-pub label-answer-one : (κs : Lfts 4) (a : Dens κs label-answer.Kinds.ps) (r o : (res_t label-answer.Kinds.r κs).Denot)
-    (e e' : AtExit (ended_of 4 label-answer.Kinds.ps label-answer.Kinds.r) κs)
-    → label-answer.Reads.Post κs a r e → label-answer.Reads.Post κs a o e'
-    → (r ≡ o) × (e.1.1.1.1.1.0.now ≡ e'.1.1.1.1.1.0.now)
-label-answer-one κs a r o e e' p q =
-    let same = p ∙ sym q in
-    (ap (λ (w : Waiting). w.1) same, ap (λ (w : Waiting). w.0) same)
+  pub label-answer-one : (κs : Lfts 6) (a : Dens κs (label-answer.Kinds.ps runtime laws))
+      (r o : (res_t (label-answer.Kinds.r runtime laws) κs).Denot)
+      (e e' : AtExit (ended_of 6 (label-answer.Kinds.ps runtime laws) (label-answer.Kinds.r runtime laws)) κs)
+      → label-answer.Reads.Post runtime laws print dict κs a r e → label-answer.Reads.Post runtime laws print dict κs a o e'
+      → (r ≡ o) × (e.1.1.1.1.1.1.0.now ≡ e'.1.1.1.1.1.1.0.now)
+  label-answer-one κs a r o e e' p q =
+      let same = p ∙ sym q in
+      (ap (λ (w : Waiting). w.1) same, ap (λ (w : Waiting). w.0) same)
 
-pub sheet-answer-one : (κs : Lfts 4) (a : Dens κs sheet-answer.Kinds.ps) (r o : (res_t sheet-answer.Kinds.r κs).Denot)
-    (e e' : AtExit (ended_of 4 sheet-answer.Kinds.ps sheet-answer.Kinds.r) κs)
-    → sheet-answer.Reads.Post κs a r e → sheet-answer.Reads.Post κs a o e'
-    → (r ≡ o) × (e.1.1.1.1.1.0.now ≡ e'.1.1.1.1.1.0.now)
-sheet-answer-one κs a r o e e' p q =
-    let same = p ∙ sym q in
-    (ap (λ (w : Waiting). w.1) same, ap (λ (w : Waiting). w.0) same)
+  pub sheet-answer-one : (κs : Lfts 6) (a : Dens κs (sheet-answer.Kinds.ps runtime laws))
+      (r o : (res_t (sheet-answer.Kinds.r runtime laws) κs).Denot)
+      (e e' : AtExit (ended_of 6 (sheet-answer.Kinds.ps runtime laws) (sheet-answer.Kinds.r runtime laws)) κs)
+      → sheet-answer.Reads.Post runtime laws print dict κs a r e → sheet-answer.Reads.Post runtime laws print dict κs a o e'
+      → (r ≡ o) × (e.1.1.1.1.1.1.0.now ≡ e'.1.1.1.1.1.1.0.now)
+  sheet-answer-one κs a r o e e' p q =
+      let same = p ∙ sym q in
+      (ap (λ (w : Waiting). w.1) same, ap (λ (w : Waiting). w.0) same)
 
-pub gather-answer-one : (κs : Lfts 5) (a : Dens κs gather-answer.Kinds.ps) (r o : (res_t gather-answer.Kinds.r κs).Denot)
-    (e e' : AtExit (ended_of 5 gather-answer.Kinds.ps gather-answer.Kinds.r) κs)
-    → gather-answer.Reads.Post κs a r e → gather-answer.Reads.Post κs a o e'
-    → (r ≡ o) × (e.1.1.1.1.1.1.0.now ≡ e'.1.1.1.1.1.1.0.now)
-gather-answer-one κs a r o e e' p q =
-    let same = p ∙ sym q in
-    (ap (λ (w : Waiting). w.1) same, ap (λ (w : Waiting). w.0) same)
+  pub gather-answer-one : (κs : Lfts 7) (a : Dens κs (gather-answer.Kinds.ps runtime laws))
+      (r o : (res_t (gather-answer.Kinds.r runtime laws) κs).Denot)
+      (e e' : AtExit (ended_of 7 (gather-answer.Kinds.ps runtime laws) (gather-answer.Kinds.r runtime laws)) κs)
+      → gather-answer.Reads.Post runtime laws print dict κs a r e → gather-answer.Reads.Post runtime laws print dict κs a o e'
+      → (r ≡ o) × (e.1.1.1.1.1.1.1.0.now ≡ e'.1.1.1.1.1.1.1.0.now)
+  gather-answer-one κs a r o e e' p q =
+      let same = p ∙ sym q in
+      (ap (λ (w : Waiting). w.1) same, ap (λ (w : Waiting). w.0) same)
 
-pub join-answer-one : (κs : Lfts 4) (a : Dens κs join-answer.Kinds.ps) (r o : (res_t join-answer.Kinds.r κs).Denot)
-    (e e' : AtExit (ended_of 4 join-answer.Kinds.ps join-answer.Kinds.r) κs)
-    → join-answer.Reads.Post κs a r e → join-answer.Reads.Post κs a o e'
-    → (r ≡ o) × (e.1.1.1.1.1.0.now ≡ e'.1.1.1.1.1.0.now) × (e.1.0.now ≡ e'.1.0.now)
-join-answer-one κs a r o e e' p q =
-    let same = p.0 ∙ sym q.0 in
-    (ap (λ (w : Waiting). w.1) same, ap (λ (w : Waiting). w.0) same, p.1 ∙ sym q.1)
+  pub join-answer-one : (κs : Lfts 6) (a : Dens κs (join-answer.Kinds.ps runtime laws))
+      (r o : (res_t (join-answer.Kinds.r runtime laws) κs).Denot)
+      (e e' : AtExit (ended_of 6 (join-answer.Kinds.ps runtime laws) (join-answer.Kinds.r runtime laws)) κs)
+      → join-answer.Reads.Post runtime laws print dict κs a r e → join-answer.Reads.Post runtime laws print dict κs a o e'
+      → (r ≡ o) × (e.1.1.1.1.1.1.0.now ≡ e'.1.1.1.1.1.1.0.now) × (e.1.1.0.now ≡ e'.1.1.0.now)
+  join-answer-one κs a r o e e' p q =
+      let same = p.0 ∙ sym q.0 in
+      (ap (λ (w : Waiting). w.1) same, ap (λ (w : Waiting). w.0) same, p.1 ∙ sym q.1)
 
-pub show-one : (κs : Lfts 7) (a : Dens κs show.Kinds.ps) (r o : (res_t show.Kinds.r κs).Denot)
-    (e e' : AtExit (ended_of 7 show.Kinds.ps show.Kinds.r) κs)
-    → show.Reads.Post κs a r e → show.Reads.Post κs a o e'
-    → (r ≡ o) × (e.1.1.1.1.1.1.1.1.0.now ≡ e'.1.1.1.1.1.1.1.1.0.now) × (e.1.0.now ≡ e'.1.0.now)
-show-one κs a r o e e' p q =
-    let same = p.0 ∙ sym q.0 in
-    (ap (λ (w : Waiting). w.1) same, ap (λ (w : Waiting). w.0) same, p.1 ∙ sym q.1)
+  pub show-one : (κs : Lfts 9) (a : Dens κs (show.Kinds.ps runtime laws)) (r o : (res_t (show.Kinds.r runtime laws) κs).Denot)
+      (e e' : AtExit (ended_of 9 (show.Kinds.ps runtime laws) (show.Kinds.r runtime laws)) κs)
+      → show.Reads.Post runtime laws print dict κs a r e → show.Reads.Post runtime laws print dict κs a o e'
+      → (r ≡ o) × (e.1.1.1.1.1.1.1.1.1.0.now ≡ e'.1.1.1.1.1.1.1.1.1.0.now) × (e.1.1.0.now ≡ e'.1.1.0.now)
+  show-one κs a r o e e' p q =
+      let same = p.0 ∙ sym q.0 in
+      (ap (λ (w : Waiting). w.1) same, ap (λ (w : Waiting). w.0) same, p.1 ∙ sym q.1)
 
-pub convert-answer-one : (κs : Lfts 4) (a : Dens κs convert_answer.Kinds.ps) (r o : (res_t convert_answer.Kinds.r κs).Denot)
-    (e e' : AtExit (ended_of 4 convert_answer.Kinds.ps convert_answer.Kinds.r) κs)
-    → convert_answer.Reads.Post κs a r e → convert_answer.Reads.Post κs a o e'
-    → (r.at ≡ o.at) × (e.1.1.1.1.1.0.now ≡ e'.1.1.1.1.1.0.now)
-convert-answer-one κs a r o e e' p q =
-    let same = p ∙ sym q in
-    (ap (λ (w : Waiting). w.1) same, ap (λ (w : Waiting). w.0) same)
+  pub convert-answer-one : (κs : Lfts 6) (a : Dens κs (convert_answer.Kinds.ps runtime laws))
+      (r o : (res_t (convert_answer.Kinds.r runtime laws) κs).Denot)
+      (e e' : AtExit (ended_of 6 (convert_answer.Kinds.ps runtime laws) (convert_answer.Kinds.r runtime laws)) κs)
+      → convert_answer.Reads.Post runtime laws print dict κs a r e → convert_answer.Reads.Post runtime laws print dict κs a o e'
+      → (r.at ≡ o.at) × (e.1.1.1.1.1.1.0.now ≡ e'.1.1.1.1.1.1.0.now)
+  convert-answer-one κs a r o e e' p q =
+      let same = p ∙ sym q in
+      (ap (λ (w : Waiting). w.1) same, ap (λ (w : Waiting). w.0) same)
 
--- The calls with counts are lent the panel where it stands, so that every word of `lent` is told too.
-pub count-answer-one : (κs : Lfts 6) (a : Dens κs count-answer.Kinds.ps) (r o : (res_t count-answer.Kinds.r κs).Denot)
-    (e e' : AtExit (ended_of 6 count-answer.Kinds.ps count-answer.Kinds.r) κs)
-    → count-answer.Reads.Post κs a r e → count-answer.Reads.Post κs a o e'
-    → (r.at ≡ o.at)
-    × (r.held ≡ o.held)
-    × (e.1.1.1.1.0.now ≡ e'.1.1.1.1.0.now)
-    × (e.1.1.1.1.1.1.1.0.now ≡ e'.1.1.1.1.1.1.1.0.now)
-count-answer-one κs a r o e e' p q =
-    let same = p.0 ∙ sym q.0 in (
-      ap (λ (w : Waiting). w.1) same,
-      p.1.0 ∙ sym q.1.0,
-      p.1.1 ∙ sym q.1.1,
-      ap (λ (w : Waiting). w.0) same,
-    )
+  -- The calls with counts are lent the panel where it stands, so that every word of `lent` is told too.
+  pub count-answer-one : (κs : Lfts 8) (a : Dens κs (count-answer.Kinds.ps runtime laws))
+      (r o : (res_t (count-answer.Kinds.r runtime laws) κs).Denot)
+      (e e' : AtExit (ended_of 8 (count-answer.Kinds.ps runtime laws) (count-answer.Kinds.r runtime laws)) κs)
+      → count-answer.Reads.Post runtime laws print dict κs a r e → count-answer.Reads.Post runtime laws print dict κs a o e'
+      → (r.at ≡ o.at)
+      × (r.held ≡ o.held)
+      × (e.1.1.1.1.1.0.now ≡ e'.1.1.1.1.1.0.now)
+      × (e.1.1.1.1.1.1.1.1.0.now ≡ e'.1.1.1.1.1.1.1.1.0.now)
+  count-answer-one κs a r o e e' p q =
+      let same = p.0 ∙ sym q.0 in (
+        ap (λ (w : Waiting). w.1) same,
+        p.1.0 ∙ sym q.1.0,
+        p.1.1 ∙ sym q.1.1,
+        ap (λ (w : Waiting). w.0) same,
+      )

@@ -18,7 +18,8 @@ pub then : {between after : Waiting} (before : Waiting) (xs ys : List ℕ)
 then before xs ys first second = second ∙ ap (λ (w : Waiting). with_bytes w ys) first ∙ puts-join before xs ys
 
 -- the same bytes in other words
-pub puts-same : {after : Waiting} {xs ys : List ℕ} (before : Waiting) → after ≡ with_bytes before xs → xs ≡ ys → after ≡ with_bytes before ys
+pub puts-same : {after : Waiting} {xs ys : List ℕ} (before : Waiting) → after ≡ with_bytes before xs → xs ≡ ys
+    → after ≡ with_bytes before ys
 puts-same before put same = put ∙ ap (with_bytes before) same
 
 -- one byte, and bytes behind it

@@ -94,7 +94,8 @@ unfoldable pub label_answer : Line → List ℕ → List ℕ → Held → List �
 label_answer line font text held lent =
     cond (eqb line.command measure) (reply_bytes line.command (measure_of font (signed_of line 0) text))
     (cond (eqb line.command paint)
-    (reply_bytes line.command (reply_of (shape_of line 0) (length (words_of lent held panel) ∷ []) (call_of font (label_of line 3) text))) [])
+    (reply_bytes line.command (reply_of (shape_of line 0) (length (words_of lent held panel) ∷ []) (call_of font (label_of line 3) text)))
+    [])
 
 -- ---- calls on sheets
 

@@ -4,7 +4,11 @@ use Prim.Native.Nat.{ℕ}
 use mathlib.Core.Path.{◌≡◌, sym, ap, ◌∙◌}
 use mathlib.Core.List.{List}
 use contract.Lifetimes.{Lfts}
+use denote.Param.Laws.{Laws}
+use denote.RattleType.{RattleType}
 use denote.Triple.Clauses.{AtExit}
+use mir.Syntax.{Dict}
+use Rattle.std.specs.declared.io.Eprint.{Ghosts}
 use borrow.Fn.Kinds.{Dens, res_t, ended_of}
 use Rattle.words.proofs.Outcomes.{OneReply}
 use Rattle.paint.specs.declared.Shape.{Shape}
@@ -62,20 +66,25 @@ line-so-far-one κs a r o e e' p q = p ∙ sym q
 
 -- ---- painting
 
-pub paint-line-one : (κs : Lfts 3) (a : Dens κs paint-line.Kinds.ps) (r o : (res_t paint-line.Kinds.r κs).Denot)
-    (e e' : AtExit (ended_of 3 paint-line.Kinds.ps paint-line.Kinds.r) κs)
-    → paint-line.Reads.Post κs a r e → paint-line.Reads.Post κs a o e'
-    → (r ≡ o) × (e.1.1.1.1.0.now ≡ e'.1.1.1.1.0.now)
-paint-line-one κs a r o e e' p q = both (p ∙ sym q)
+-- whatever the runtime that the messages are said by
+module _ (runtime : RattleType) (laws : Laws runtime) (eprint : Ghosts runtime.Denot) (dict : Dict) where
+  pub paint-line-one : (κs : Lfts 5) (a : Dens κs (paint-line.Kinds.ps runtime laws))
+      (r o : (res_t (paint-line.Kinds.r runtime laws) κs).Denot)
+      (e e' : AtExit (ended_of 5 (paint-line.Kinds.ps runtime laws) (paint-line.Kinds.r runtime laws)) κs)
+      → paint-line.Reads.Post runtime laws eprint dict κs a r e → paint-line.Reads.Post runtime laws eprint dict κs a o e'
+      → (r ≡ o) × (e.1.1.1.1.1.0.now ≡ e'.1.1.1.1.1.0.now)
+  paint-line-one κs a r o e e' p q = both (p ∙ sym q)
 
-pub take-byte-one : (κs : Lfts 3) (a : Dens κs take-byte.Kinds.ps) (r o : (res_t take-byte.Kinds.r κs).Denot)
-    (e e' : AtExit (ended_of 3 take-byte.Kinds.ps take-byte.Kinds.r) κs)
-    → take-byte.Reads.Post κs a r e → take-byte.Reads.Post κs a o e'
-    → (r ≡ o) × (e.1.1.0.now ≡ e'.1.1.0.now) × (e.1.1.1.1.1.0.now ≡ e'.1.1.1.1.1.0.now)
-take-byte-one κs a r o e e' p q = same_taken p q
+  pub take-byte-one : (κs : Lfts 5) (a : Dens κs (take-byte.Kinds.ps runtime laws))
+      (r o : (res_t (take-byte.Kinds.r runtime laws) κs).Denot)
+      (e e' : AtExit (ended_of 5 (take-byte.Kinds.ps runtime laws) (take-byte.Kinds.r runtime laws)) κs)
+      → take-byte.Reads.Post runtime laws eprint dict κs a r e → take-byte.Reads.Post runtime laws eprint dict κs a o e'
+      → (r ≡ o) × (e.1.1.1.0.now ≡ e'.1.1.1.0.now) × (e.1.1.1.1.1.1.0.now ≡ e'.1.1.1.1.1.1.0.now)
+  take-byte-one κs a r o e e' p q = same_taken p q
 
-pub take-bytes-one : (κs : Lfts 4) (a : Dens κs take-bytes.Kinds.ps) (r o : (res_t take-bytes.Kinds.r κs).Denot)
-    (e e' : AtExit (ended_of 4 take-bytes.Kinds.ps take-bytes.Kinds.r) κs)
-    → take-bytes.Reads.Post κs a r e → take-bytes.Reads.Post κs a o e'
-    → (r ≡ o) × (e.1.1.0.now ≡ e'.1.1.0.now) × (e.1.1.1.1.1.0.now ≡ e'.1.1.1.1.1.0.now)
-take-bytes-one κs a r o e e' p q = same_taken p.0 q.0
+  pub take-bytes-one : (κs : Lfts 6) (a : Dens κs (take-bytes.Kinds.ps runtime laws))
+      (r o : (res_t (take-bytes.Kinds.r runtime laws) κs).Denot)
+      (e e' : AtExit (ended_of 6 (take-bytes.Kinds.ps runtime laws) (take-bytes.Kinds.r runtime laws)) κs)
+      → take-bytes.Reads.Post runtime laws eprint dict κs a r e → take-bytes.Reads.Post runtime laws eprint dict κs a o e'
+      → (r ≡ o) × (e.1.1.1.0.now ≡ e'.1.1.1.0.now) × (e.1.1.1.1.1.1.0.now ≡ e'.1.1.1.1.1.1.0.now)
+  take-bytes-one κs a r o e e' p q = same_taken p.0 q.0
