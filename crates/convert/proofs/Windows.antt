@@ -1,6 +1,5 @@
--- A dot shown where some tests hold, and none elsewhere: the window that a written font has on a code's picture, and the one that a CU
--- file has on
--- its raster. Both show the same dots.
+-- A dot shown where some tests hold, and none elsewhere: the window that a written font has on a code's picture, and the one that a CU file
+-- has on its raster. Both show the same dots.
 use Prim.Native.Nat.{ℕ, ◌+◌, ◌-◌, ◌<◌, ◌≤◌}
 use mathlib.Core.Path.{◌≡◌, refl, sym, ap, ap₂, ◌∙◌}
 use mathlib.Core.Bool.{Bool, true, false, cond, ◌&&◌, true≢false}

@@ -133,10 +133,8 @@ module _ (ws : List ℕ) where
   bottom = last_below rows row_used
 
   -- What all characters share, by the place of code 65. "The origin: in code 65, take the lowest row with a dot and the leftmost dot in
-  -- that
-  -- row, at row a and column b. In every character the dot at row i, column j is x = j - b, y = a - i." FBBox is the least x. The rows
-  -- above
-  -- the baseline are those from top to a, for y from the greatest down to 0; those below it go on to the bottom.
+  -- that row, at row a and column b. In every character the dot at row i, column j is x = j - b, y = a - i." FBBox is the least x. The rows
+  -- above the baseline are those from top to a, for y from the greatest down to 0; those below it go on to the bottom.
   unfoldable pub frame_from : ℕ → Frame
   frame_from place =
       let a = lowest_of place in

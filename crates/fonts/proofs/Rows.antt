@@ -1,6 +1,5 @@
 -- "One row of a strike may be asked for": an accepted font, a body that is there and a row below its height give exactly raster words,
--- those
--- of the file from that row on, and never the empty part; all else gives the empty part.
+-- those of the file from that row on, and never the empty part; all else gives the empty part.
 use Prim.Native.Nat.{ℕ, zero, suc, ◌+◌, ◌*◌, ◌<◌, ◌≤◌}
 use mathlib.Core.Path.{◌≡◌, refl, ap, ◌∙◌}
 use mathlib.Core.Bool.{Bool, true, false, cond, ◌&&◌}

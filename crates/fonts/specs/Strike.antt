@@ -107,12 +107,13 @@ unfoldable pub strike_in : View → List ℕ → ℕ → Strike
 strike_in v ws k =
     cond (eqb k 0) (first_strike v) (cond (ltb k v.header.bodies) (strike_at ws (body_start v.header ws k)) no_strike)
 
--- the same by a table of where the bitmaps begin, which is made once: 128 numbers, 5 for a body that is not there
+-- where the bitmap of body k begins
 abbrev pub bitmap_start : Header → List ℕ → ℕ → ℕ
 bitmap_start h ws k = body_start h ws k + 5
 
+-- the same by a table of where the bitmaps begin, which is made once: 128 numbers, 5 for a body that is not there
 unfoldable pub bitmaps_of : Header → List ℕ → List ℕ
-bitmaps_of h ws = over (min 128 h.bodies) (bitmap_start h ws) (table 128 (λ k. 5))
+bitmaps_of h ws = over (min 128 h.bodies) (λ k. body_start h ws k + 5) (table 128 (λ k. 5))
 
 unfoldable pub strike_by : View → List ℕ → List ℕ → ℕ → Strike
 strike_by v bitmaps ws k =

@@ -145,9 +145,8 @@ set-one κs a r o e e' p q =
     )
 
 -- The reply, and every byte of the text, whatever the runtime that the text is written by; where a line's values are altered, those too.
--- The
--- registers that a call alters are lent to it by a part that is handed back, and no contract says what becomes of the array behind such a
--- part.
+-- The registers that a call alters are lent to it by a part that is handed back, and no contract says what becomes of the array behind such
+-- a part.
 module _ (runtime : RattleType) (laws : Laws runtime) (print : Ghosts runtime.Denot) (dict : Dict) where
   pub put_one : (κs : Lfts 3) (a : Dens κs (put.Kinds.ps runtime laws)) (r o : (res_t (put.Kinds.r runtime laws) κs).Denot)
       (e e' : AtExit (ended_of 3 (put.Kinds.ps runtime laws) (put.Kinds.r runtime laws)) κs)

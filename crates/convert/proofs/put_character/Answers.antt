@@ -1,6 +1,5 @@
 -- `convert::put_character` meets its contract: the picture is the character's raster from its own box on; where there is no character, a
--- picture
--- of no columns changes nothing.
+-- picture of no columns changes nothing.
 -- Assumes nothing.
 use Prim.Native.Nat.{ℕ, ◌*◌}
 use mathlib.Core.Path.{sym, ap, ap₂, ◌∙◌}

@@ -1,6 +1,5 @@
 -- `convert::write_bitmap` meets its contract: each character's picture comes behind those before it, then the dummy's block, then nothing,
--- and with
--- them all columns of the strike are written.
+-- and with them all columns of the strike are written.
 -- Assumes nothing.
 use Prim.Native.Nat.{◌-◌, ◌*◌, ◌≤◌}
 use mathlib.Core.Path.{◌≡◌}

@@ -1,6 +1,5 @@
 -- `fontbytes::check_bodies` meets its contract. The invariant: no body before this one is refused or has fewer pointers, and this one
--- begins
--- here.
+-- begins here.
 -- Assumes nothing.
 use Prim.Native.Nat.{◌+◌, ◌-◌, ◌*◌, ◌≤◌}
 use mathlib.Core.Path.{◌≡◌}

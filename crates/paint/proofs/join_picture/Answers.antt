@@ -16,8 +16,8 @@ use Rattle.paint.proofs.Reaches.{within}
 use Rattle.paint.proofs.Reaching.{flip-drawn, keep-drawn}
 use Rattle.paint.proofs.join_picture.Goals as goal
 use Rattle.paint.proofs.join_picture.Goals.{After-mode_number-mode, After-of-reach}
-    -- what can be drawn on keep can be drawn on flip
 
+-- what can be drawn on keep can be drawn on flip
 flip-room : (c : After-of-reach) → Drawable c.args.k (length c.args.flip.now)
 flip-room c = let d = c.requires.drawable in (d.0, d.1, d.2, d.3, d.4, d.5, c.requires.k_in_bounds)
 
@@ -53,8 +53,8 @@ lies-after-mode-number c room drawable some = within c.args.g c.args.k c.args.pe
 
 lies-keep : (m : After-mode_number-mode) → Within m.of-reach.result (length m.args.keep.now)
 lies-keep m = lies-after-mode-number m _ m.requires.drawable m.if-reach-eq0.false
-    -- what can be drawn on keep can be drawn on flip
 
+-- what can be drawn on keep can be drawn on flip
 flip-room-after-mode-number : (c : After-mode_number-mode) → Drawable c.args.k (length c.args.flip.now)
 flip-room-after-mode-number c = let d = c.requires.drawable in (d.0, d.1, d.2, d.3, d.4, d.5, c.requires.k_in_bounds)
 

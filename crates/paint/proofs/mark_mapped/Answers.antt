@@ -21,8 +21,8 @@ near : (b : At-loop-i) → Near b.loop-i.pen
 near b =
     gone-near _ b.loop-i.pen b.loop-i.i (length b.args.text.now) b.requires.starting.0 b.requires.text_len_bound b.loop-i.invariant.0
     b.loop-i.invariant.8
-    -- what can be drawn on when the call begins can be drawn on now
 
+-- what can be drawn on when the call begins can be drawn on now
 drawable : (b : At-loop-i) → Drawable b.args.k (length b.loop-i.flip)
 drawable b = same-room b.args.k _ (length b.loop-i.flip) b.loop-i.invariant.1 b.requires.drawable
 

@@ -30,8 +30,8 @@ flip-words c i = (c.type_inv.flip i).fits
 
 keep-room : (c : After-slice_known-2-1) → c.args.settles ≡ true → Drawable c.args.k (length c.args.keep.now)
 keep-room c sure = other-room c.args.k (length c.args.flip.now) (length c.args.keep.now) c.requires.drawable (c.requires.k_in_bounds sure)
-    -- no row is reached
 
+-- no row is reached
 none : (c : After-slice_known-2-1) → (reach_of c.args.g c.args.k c.args.pen).rows ≡ 0
     → (c.args.keep.now ≡ kept_if c.args.settles (picture_effect (dot_of c.args.font.now) (erasing c.args.k) c.args.pen c.args.g) c.args.k
     c.args.keep.now) × (c.args.flip.now ≡ on_panel (picture_effect (dot_of c.args.font.now) c.args.k c.args.pen c.args.g) c.args.k

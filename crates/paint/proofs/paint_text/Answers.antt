@@ -38,8 +38,8 @@ loop-i-init c = (omega arith, refl, (λ i. (c.type_inv.panel i).fits), refl, ref
 near : (b : At-loop-i) → Near b.loop-i.pen
 near b = gone-near _ b.loop-i.pen b.loop-i.i (length b.args.text.now) b.requires.starting b.requires.text_len_bound b.loop-i.invariant.0
     b.loop-i.invariant.5
-    -- what can be drawn on when the call begins can be drawn on now
 
+-- what can be drawn on when the call begins can be drawn on now
 drawable : (b : At-loop-i) → Drawable b.args.k (length b.loop-i.panel)
 drawable b = same-room b.args.k _ (length b.loop-i.panel) b.loop-i.invariant.1 b.requires.drawable
 

@@ -1,5 +1,5 @@
--- `paint::paint_text` meets its contract. The invariant: what is lent, with the whole text on it, is what stands there now with the rest
--- of the text on it, from this pen.
+-- `paint::paint_text` meets its contract. The invariant: what is lent, with the whole text on it, is what stands there now with the rest of
+-- the text on it, from this pen.
 -- Assumes nothing.
 use Prim.Native.Nat.{◌-◌, ◌≤◌}
 use mathlib.Core.Path.{◌≡◌}

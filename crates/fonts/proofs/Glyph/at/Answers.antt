@@ -1,5 +1,5 @@
--- `fonts::Glyph::at` meets its contract, field by field: it asks the tables at the code's own place, and at the dummy's where the dummy
--- is drawn.
+-- `fonts::Glyph::at` meets its contract, field by field: it asks the tables at the code's own place, and at the dummy's where the dummy is
+-- drawn.
 -- Assumes nothing.
 use Rattle.fonts.specs.Face.{picture_of}
 use Rattle.fonts.specs.Kinds.{glyph_over}
