@@ -1,4 +1,4 @@
-// The label software for C programs: `include/pailradish.h` declares these functions, and `rt staticlib desk` makes their archive.
+// The label software for C programs: `include/pailradish.h` declares these functions, and `rt lib` makes their archive.
 // The desk's own two calls are handed bytes; the others are thin over the functions of their names.
 #![tactic(auto)]
 
