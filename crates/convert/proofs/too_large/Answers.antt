@@ -1,4 +1,4 @@
--- `convert::too-large` meets its contract, by the tests that it makes.
+-- `convert::too_large` meets its contract, by the tests that it makes.
 -- Assumes nothing.
 use mathlib.Core.Path.{ap}
 use lib.Dec.{ltb}

@@ -1,4 +1,4 @@
--- `fonts::count-at` meets its contract, by the test that it makes.
+-- `fonts::count_at` meets its contract, by the test that it makes.
 -- Assumes nothing.
 use Rattle.fonts.specs.Strike.{count_at}
 use Rattle.words.proofs.Chain.{chain}

@@ -1,4 +1,4 @@
--- `fonts::Header::map-at` meets its contract, by the test that it makes.
+-- `fonts::Header::map_at` meets its contract, by the test that it makes.
 -- Assumes nothing.
 use native.Mathlib.Omega.{arith}
 use Rattle.fonts.specs.Strike.{map_at}

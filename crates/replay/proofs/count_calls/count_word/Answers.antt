@@ -1,4 +1,4 @@
--- `replay::count_calls::count-word` is the high word of a count at an even place, and the low one behind it.
+-- `replay::count_calls::count_word` is the high word of a count at an even place, and the low one behind it.
 use Rattle.words.proofs.Chain.{chain}
 use Rattle.replay.specs.Calls.{count_word}
 use Rattle.replay.proofs.count_calls.count_word.Goals as goal
