@@ -28,7 +28,13 @@ use Rattle.claims.specs.Index.{plain_flaws as plainIndexFlaws, kerned_flaws as k
 use Rattle.claims.specs.Index.{plain_order, kerned_order, call_order}
 use Rattle.claims.specs.Index.{many_limits, many_seen, many_pictures, large_limits, large_dots, large_rows, counted, kerned_counted}
 use Rattle.claims.specs.OneBody.{indexed, plain_pair, plain_pair_index, kerned_trio, kerned_trio_index, made_files, made_numbers, made_seen}
+use Rattle.words.specs.Refusal.{numbered, refusal_of, answered}
 use Rattle.counts.proofs.Compute.{computing as below}
+
+-- replies
+unfoldable pub replies : Unit {0}
+unfolding numbered refusal_of answered
+replies = tt
 
 -- the worked cases
 unfoldable pub worked_cases : Unit {0}
@@ -119,6 +125,6 @@ unfolding index_fonts index_seen index_tables index_limits index_at_limits large
 index = tt
 
 unfoldable pub computing : Unit {0}
-unfolding below count_tables worked_cases fonts seen font_tables edge_tables file_limits calls conversions label_flaws conversion_flaws
-    index
+unfolding below replies count_tables worked_cases fonts seen font_tables edge_tables file_limits calls conversions label_flaws
+    conversion_flaws index
 computing = tt

@@ -10,3 +10,5 @@ pub mod Parts
 pub mod Made
 pub mod Faces
 pub mod OneBody
+pub mod Numbers
+pub mod Held

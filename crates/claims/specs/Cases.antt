@@ -1,11 +1,11 @@
 -- The worked cases: the paper's "A small font and what it does", C1 to C10, and a second table for an error that those let pass.
 use Rattle.std.specs.Prelude.{ℕ, List, [], ◌∷◌, ℤ, pos, negsuc, replicate, set}
+use Rattle.std.specs.declared.result.Result.TheVariants.{Ok, Err}
+use Rattle.words.specs.Refusal.{refusal_of}
 use Rattle.words.specs.Word.{bytes_of}
 use Rattle.convert.specs.Conversion.{program_output}
 use Rattle.paint.specs.declared.Shape.{Shape}
-use Rattle.paint.specs.declared.Reply.{Reply}
-use Rattle.paint.specs.declared.Reply.TheVariants.{Done, Refused}
-use Rattle.paint.specs.Label.{Call, reply_of, paint_after}
+use Rattle.paint.specs.Label.{Call, Reply, reply_of, paint_after}
 use Rattle.paint.specs.Sheet.{Sheet}
 use Rattle.sheets.specs.Sheet.{fresh_after, join_after, apply_after}
 use Rattle.sheets.specs.Calls.{gather_all}
@@ -73,7 +73,11 @@ label strip x mode codes =
     }
 
 abbrev pub ends : ℤ → ℕ → Reply
-ends pen substitutes = Done (record { pen = pen; substitutes = substitutes })
+ends pen substitutes = Ok (record { pen = pen; substitutes = substitutes })
+
+-- the refusal of this number
+abbrev pub refused : ℕ → Reply
+refused number = Err (refusal_of number)
 
 abbrev pub zeros : List ℕ
 zeros = words [] 0
@@ -85,7 +89,7 @@ cases =
     -- C2. codes 66 65: word 7 = 0002, word 15 = 000D, word 23 = 0008; pen 5, substitutes 0
     ∷ (paint (label 31 (pos 1) 0 (66 ∷ 65 ∷ [])), paints (ends (pos 5) 0) (words ((7, 0x0002) ∷ (15, 0x000D) ∷ (23, 0x0008) ∷ []) 0))
     -- C3. the same, strip 32: refused 9
-    ∷ (paint (label 32 (pos 1) 0 (66 ∷ 65 ∷ [])), paints (Refused 9) zeros)
+    ∷ (paint (label 32 (pos 1) 0 (66 ∷ 65 ∷ [])), paints (refused 9) zeros)
     -- C4. code 67: words 7, 15, 23 = 000F; pen 5, substitutes 1
     ∷ (paint (label 31 (pos 1) 0 (67 ∷ [])), paints (ends (pos 5) 1) (words ((7, 0x000F) ∷ (15, 0x000F) ∷ (23, 0x000F) ∷ []) 0))
     -- C5. code 65, x = 3: word 15 = 0001 only; pen 7

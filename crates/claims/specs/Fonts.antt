@@ -6,8 +6,7 @@ use Rattle.words.specs.Place.{number_at}
 use Rattle.fonts.specs.Face.{face_of, dots_of, row_of}
 use Rattle.convert.specs.Conversion.{output_after, program_output}
 use Rattle.paint.specs.declared.Shape.{Shape}
-use Rattle.paint.specs.declared.Reply.{Reply}
-use Rattle.paint.specs.Label.{call_of, reply_of, paint_after, measure_of, measure_file}
+use Rattle.paint.specs.Label.{Reply, call_of, reply_of, paint_after, measure_of, measure_file}
 use Rattle.paint.specs.Sheet.{Sheet}
 use Rattle.sheets.specs.Sheet.{gather_after}
 use Rattle.claims.specs.Cases.{Outcome, prints, paints, gathers, ends}

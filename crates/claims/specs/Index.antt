@@ -5,14 +5,13 @@ use Rattle.words.specs.Word.{bytes_of}
 use Rattle.fonts.specs.Face.{face_of, dots_of, row_of}
 use Rattle.paint.specs.declared.Shape.{Shape}
 use Rattle.paint.specs.declared.Label.{Label}
-use Rattle.paint.specs.declared.Reply.TheVariants.{Refused}
 use Rattle.paint.specs.Panel.{panel_words}
 use Rattle.paint.specs.Label.{call_of, reply_of, paint_after, measure_of, measure_file}
 use Rattle.paint.specs.Sheet.{Sheet}
 use Rattle.sheets.specs.Sheet.{apply_after, gather_after}
 use Rattle.counts.specs.Calls.{PanelCall, painting}
 use Rattle.fonts.specs.Reading.{font_number}
-use Rattle.claims.specs.Cases.{paints, gathers, applies, ends, small_font, shape as smallShape}
+use Rattle.claims.specs.Cases.{paints, gathers, applies, ends, refused, small_font, shape as smallShape}
 use Rattle.claims.specs.Fonts.{Seen, shows, holds, replies, comes, picture, shown}
 use Rattle.claims.specs.Edges.{changed}
 use Rattle.claims.specs.Limits.{Row, reads, label_of, Flaw, cut_to, in_tables, put, over_codes, in_order}
@@ -190,8 +189,8 @@ plain_measures =
     ∷ (spelt_measured speakers (negsuc 2) (replicate 64 75), replies (ends (negsuc 2) 0))
     -- from the greatest x; 10 for one more; 11 for a 65th code
     ∷ (measured speakers (pos 1023) (75 ∷ 74 ∷ []), replies (ends (pos 1025) 1))
-    ∷ (measured speakers (pos 1024) (75 ∷ []), replies (Refused 10))
-    ∷ (measured speakers (pos 0) (replicate 65 75), replies (Refused 11))
+    ∷ (measured speakers (pos 1024) (75 ∷ []), replies (refused 10))
+    ∷ (measured speakers (pos 0) (replicate 65 75), replies (refused 11))
     -- the dummy without columns, and the one that is the picture of 65
     ∷ (measured bare_index (pos 0) (65 ∷ 66 ∷ 64 ∷ []), replies (ends (pos 2) 2))
     ∷ (measured shared_dummy (pos 0) (65 ∷ 66 ∷ 64 ∷ []), replies (ends (pos 6) 2))
@@ -392,7 +391,7 @@ small_painted =
     -- C3
     ∷ (
       painted smallShape small_index (label_of 32 (pos 1) (pos 2) 0) (66 ∷ 65 ∷ []) 0,
-      comes (paints (Refused 9) (words_on smallShape [] 0)),
+      comes (paints (refused 9) (words_on smallShape [] 0)),
     )
     -- C4
     ∷ (
@@ -738,17 +737,17 @@ limit_seen =
     let lost = set (set kerned_index 11 0x0100) 22 0xFFFF in
     -- no row; 16 before 10 in words and in bytes; 14 before it; 16 before 9 and 12, with nothing altered
     (held_in lost 0 0, holds [])
-    ∷ (measured lost (pos 1024) (65 ∷ []), replies (Refused 16))
-    ∷ (spelt_measured lost (pos 1024) (65 ∷ []), replies (Refused 16))
-    ∷ (replies (measure_file (bytes_of lost ++ 0 ∷ []) (pos 0) (65 ∷ [])), replies (Refused 14))
-    ∷ (painted tall lost (label_of 32 (pos 0) (pos 1) 3) (65 ∷ []) 0xA5A5, comes (paints (Refused 16) (words_on tall [] 0xA5A5)))
+    ∷ (measured lost (pos 1024) (65 ∷ []), replies (refused 16))
+    ∷ (spelt_measured lost (pos 1024) (65 ∷ []), replies (refused 16))
+    ∷ (replies (measure_file (bytes_of lost ++ 0 ∷ []) (pos 0) (65 ∷ [])), replies (refused 14))
+    ∷ (painted tall lost (label_of 32 (pos 0) (pos 1) 3) (65 ∷ []) 0xA5A5, comes (paints (refused 16) (words_on tall [] 0xA5A5)))
     ∷ (gathered tall lost (label_of 1 (pos 0) (pos 1) 0) (65 ∷ []), comes (gathers (words_on tall [] 0xFFFF) (words_on tall [] 0)))
     -- 15: a font without a body has no row, and is measured and painted by none
     ∷ (held_in (set plain_index 6 0) 0 0, holds [])
-    ∷ (measured (set plain_index 6 0) (pos 0) (65 ∷ []), replies (Refused 15))
+    ∷ (measured (set plain_index 6 0) (pos 0) (65 ∷ []), replies (refused 15))
     ∷ (
       painted tall (set plain_index 6 0) (label_of 1 (pos 0) (pos 1) 0) (65 ∷ []) 0xA5A5,
-      comes (paints (Refused 15) (words_on tall [] 0xA5A5)),
+      comes (paints (refused 15) (words_on tall [] 0xA5A5)),
     )
     -- the second body that no entry names
     ∷ (held_in two_bodies 1 0, holds (0x4000 ∷ []))

@@ -11,8 +11,8 @@ pub mod Chars
 pub mod Placing
 pub mod Measured
 pub mod Sources
-pub mod Converting
 pub mod Answers
+pub mod Converting
 pub mod Accepting
 pub mod Codes
 pub mod Boxes

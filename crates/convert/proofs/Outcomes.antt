@@ -6,8 +6,8 @@ use denote.Triple.Clauses.{AtExit}
 use borrow.Fn.Kinds.{Dens, res_t, ended_of}
 use Rattle.words.proofs.Outcomes.{OneReply}
 use Rattle.convert.proofs.convert as convert
-use Rattle.convert.proofs.cu.Source.of as source_of
-use Rattle.convert.proofs.cu.place as place
+use Rattle.convert.proofs.cu.Source.read as source_read
+use Rattle.convert.proofs.cu.Places.of as place-of
 use Rattle.convert.proofs.cu.spacing as spacing
 use Rattle.convert.proofs.cu.dot as dot
 use Rattle.convert.proofs.cu.left_of as left-of
@@ -20,10 +20,10 @@ pub convert-one : (κs : Lfts 2) (a : Dens κs convert.Kinds.ps) (r o : (res_t c
     → (r ≡ o) × (e.1.0.now ≡ e'.1.0.now)
 convert-one κs a r o e e' p q = (p.0 ∙ sym q.0, p.1.0 ∙ sym q.1.0)
 
-pub source-of-one : OneReply 1 source_of.Kinds.ps source_of.Kinds.r source_of.Reads.Post
-source-of-one κs a r o e e' p q = p ∙ sym q
+pub source-read-one : OneReply 1 source_read.Kinds.ps source_read.Kinds.r source_read.Reads.Post
+source-read-one κs a r o e e' p q = p ∙ sym q
 
-pub place-one : OneReply 1 place.Kinds.ps place.Kinds.r place.Reads.Post
+pub place-one : OneReply 1 place-of.Kinds.ps place-of.Kinds.r place-of.Reads.Post
 place-one κs a r o e e' p q = p ∙ sym q
 
 pub spacing-one : OneReply 1 spacing.Kinds.ps spacing.Kinds.r spacing.Reads.Post

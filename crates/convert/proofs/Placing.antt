@@ -1,6 +1,6 @@
 -- Where each code stands among the first characters of a CU file, and what one character more changes.
 use Prim.Native.Nat.{ℕ, suc, ◌+◌, ◌<◌, ◌≤◌}
-use mathlib.Core.Path.{◌≡◌, refl, sym, ap, ◌∙◌}
+use mathlib.Core.Path.{◌≡◌, refl, sym, ap, ap₂, ◌∙◌}
 use mathlib.Core.Bool.{Bool, true, false, cond, ◌||◌}
 use mathlib.Core.List.{List}
 use native.Mathlib.Numerals.{add-one}
@@ -8,12 +8,21 @@ use native.Mathlib.Omega.{arith}
 use lib.Dec.{ltb, eqb}
 use lib.ListN.{set}
 use borrow.Author.Tests.{lt-ltb, le-ltb, ltb-true, ltb-false, eqb-true, eq-eqb, ne_eqb}
+use Rattle.std.specs.Prelude.{Some, None}
 use Rattle.words.specs.Word.{word, table}
 use Rattle.words.specs.Search.{some_below, first_below}
-use Rattle.words.proofs.Search.{first-lt, first-none, first-here}
+use Rattle.words.proofs.Search.{first-lt, first-none, first-here, some-here, none_more}
 use Rattle.words.proofs.Tables.{table_at, table_same, table-set}
-use Rattle.convert.specs.declared.cu.Placed.{Placed}
-use Rattle.convert.specs.Cu.{chars, char_at, bad_code, place_among, code_place, places_of, placed_of, nothing}
+use Rattle.convert.specs.declared.cu.Places.{Places}
+use Rattle.convert.specs.Cu.{chars, char_at, bad_code, place_among, code_place, places_of, placed_of, placed_with}
+
+pub none-bad : (t : Bool) (places : Places) → None ≡ cond t None (Some places) → t ≡ true
+none-bad true places e = refl
+none-bad false places e = cc
+
+pub some-good : (t : Bool) (places after : Places) → Some after ≡ cond t None (Some places) → (t ≡ false) × (after ≡ places)
+some-good true places after e = cc
+some-good false places after e = (refl, cc)
 
 module _ (ws : List ℕ) where
   -- character i has this code
@@ -23,10 +32,6 @@ module _ (ws : List ℕ) where
   -- character k has a code that is over 255 or was there before
   abbrev bad_at : ℕ → Bool
   bad_at k = ltb 255 (word ws (char_at ws k)) || some_below k (coded (word ws (char_at ws k)))
-
-  -- what the first n characters give
-  unfoldable pub placed_among : ℕ → Placed
-  placed_among n = record { places = table 256 (place_among ws n); bad = some_below n bad_at }
 
   module _ (n c : ℕ) where
     -- a code that was there stays where it was first
@@ -111,38 +116,46 @@ module _ (ws : List ℕ) where
           (place-new k code q (eq-eqb (word ws (char_at ws k)) code (sym is)))
           (λ j other. place_other k j (ne_eqb (word ws (char_at ws k)) j (λ e. other (sym e ∙ sym is))))
 
-  abbrev bad : Placed → ℕ → Bool
-  bad before code = ltb 255 code || ltb 0 (word before.places code)
+  -- what a loop knows that has read n characters, none of which is bad
+  pub record PlacedAmong (n : ℕ) (places : List ℕ) : Type 0 where
+    pub placed : places ≡ table 256 (place_among ws n)
+    pub good : some_below n bad_at ≡ false
 
-  -- what a loop does in a turn
-  pub placed-next : (k place code : ℕ) (before after : Placed) → place ≡ char_at ws k → code ≡ word ws place → before ≡ placed_among k
-      → after.bad ≡ (before.bad || bad before code)
-      → after.places ≡ cond (bad before code) before.places (set before.places code place)
-      → after ≡ placed_among (k + 1)
-  unfolding placed_among some_below
-  placed-next k place code before after here is same bads places =
-      let code_is : code ≡ word ws (char_at ws k) = is ∙ ap (word ws) here in
-      let now = table 256 (place_among ws k) in
-      let bad-is : after.bad ≡ some_below (k + 1) bad_at =
-      bads
-      ∙ ap (λ (b : Placed). b.bad || bad b code) same
-      ∙ ap (λ (t : Bool). some_below k bad_at || t) (bad-by-table k code)
-      ∙ ap (λ (d : ℕ). some_below k bad_at || (ltb 255 d || some_below k (coded d))) code_is
-      ∙ sym (ap (λ (n : ℕ). some_below n bad_at) (add-one k))
-      in
-      let places-are : after.places ≡ table 256 (place_among ws (k + 1)) =
-      places
-      ∙ ap (λ (b : Placed). cond (bad b code) b.places (set b.places code place)) same
-      ∙ ap (λ (t : Bool). cond t now (set now code place)) (bad-by-table k code)
-      ∙ ap (λ (p : ℕ). cond (ltb 255 code || some_below k (coded code)) now (set now code p)) here
-      ∙ places-next k code code_is
-      in
-      λ i. record { places = places-are i; bad = bad-is i }
+  pub placed-none : PlacedAmong 0 (table 256 (λ c. 0))
+  unfolding place_among first_below some_below
+  placed-none = record { placed = refl; good = refl }
 
-  pub placed-none : nothing ≡ placed_among 0
-  unfolding placed_among place_among first_below some_below table
-  placed-none = refl
+  -- what it does in a turn
+  module _ (k place code : ℕ) (before : Places) (here : place ≡ char_at ws k) (is : code ≡ word ws place)
+      (among : PlacedAmong k before.table) where
+    code-is : code ≡ word ws (char_at ws k)
+    code-is = is ∙ ap (word ws) here
 
-  pub placed-all : placed_among (chars ws) ≡ placed_of ws
-  unfolding placed_among placed_of places_of code_place bad_code
-  placed-all = refl
+    bad-is : (ltb 255 code || ltb 0 (word before.table code)) ≡ bad_at k
+    bad-is =
+        ap (λ (places : List ℕ). ltb 255 code || ltb 0 (word places code)) among.placed
+        ∙ bad-by-table k code
+        ∙ ap (λ (d : ℕ). ltb 255 d || some_below k (coded d)) code-is
+
+    pub placed-bad : k < chars ws → None ≡ placed_with before code place → None ≡ placed_of ws
+    unfolding placed_of bad_code
+    placed-bad less none = rw (some-here bad_at (chars ws) k less (sym bad-is ∙ none-bad _ _ none))
+
+    pub placed-next : (after : Places) → Some after ≡ placed_with before code place → PlacedAmong (k + 1) after.table
+    placed-next after some =
+        let good = some-good _ _ after some in
+        let none = none_more bad_at k among.good (sym bad-is ∙ good.0) in
+        let fine : (ltb 255 code || some_below k (coded code)) ≡ false = sym (bad-by-table k code)
+        ∙ ap (λ (places : List ℕ). ltb 255 code || ltb 0 (word places code)) (sym among.placed) ∙ good.0 in
+        record {
+          placed =
+              ap (λ (p : Places). p.table) good.1
+              ∙ ap₂ (λ (places : List ℕ) (p : ℕ). set places code p) among.placed here
+              ∙ sym (ap (λ (t : Bool). cond t (table 256 (place_among ws k)) (set (table 256 (place_among ws k)) code (char_at ws k))) fine)
+              ∙ places-next k code code-is;
+          good = none;
+        }
+
+  pub placed-all : (places : Places) → PlacedAmong (chars ws) places.table → Some places ≡ placed_of ws
+  unfolding placed_of places_of code_place bad_code
+  placed-all places among = rw among.good (λ i. Some (record { table = among.placed i }))

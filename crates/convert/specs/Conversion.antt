@@ -1,9 +1,8 @@
 -- The conversion of a CU file, its refusals, and the program: the paper's "Numbers returned", 20 to 27, and its last paragraph.
-use Rattle.std.specs.Prelude.{ℕ, ◌≡◌, cond, List, [], ◌∷◌, ◌++◌, ltb, eqb, length, drop}
+use Rattle.std.specs.Prelude.{ℕ, ◌≡◌, cond, List, [], ◌∷◌, ◌++◌, ltb, eqb, length, drop, Result, Ok, Err}
 use Rattle.words.specs.Word.{words_of, bytes_of, odd_bytes}
-use Rattle.words.specs.Refusal.{first_of, or_else}
-use Rattle.convert.specs.declared.Conversion.{Conversion}
-use Rattle.convert.specs.declared.Conversion.TheVariants.{Written, Refused}
+use Rattle.words.specs.declared.refusal.Refusal.{Refusal}
+use Rattle.words.specs.Refusal.{first_of, or_else, returned, answered}
 use Rattle.convert.specs.Writing.{file_of, file_words, drawing_number}
 use Rattle.convert.specs.Cu.{drawing_of, cu_file_number}
 
@@ -11,20 +10,19 @@ use Rattle.convert.specs.Cu.{drawing_of, cu_file_number}
 unfoldable pub cu_number : List ℕ → ℕ → ℕ
 cu_number ws room = or_else (cu_file_number ws) (drawing_number (drawing_of ws) room)
 
-unfoldable pub conversion_of : List ℕ → ℕ → Conversion
-conversion_of ws room = cond (eqb (cu_number ws room) 0) (Written (file_words (drawing_of ws))) (Refused (cu_number ws room))
+unfoldable pub conversion_of : List ℕ → ℕ → Result ℕ Refusal
+conversion_of ws room = answered (cu_number ws room) (file_words (drawing_of ws))
 
 -- the paper's number and words written for each answer
-abbrev pub conversion_number : Conversion → ℕ
-conversion_number (Written words) = 0
-conversion_number (Refused number) = number
+abbrev pub conversion_number : Result ℕ Refusal → ℕ
+conversion_number answer = returned answer
 
-abbrev pub words_written : Conversion → ℕ
-words_written (Written words) = words
-words_written (Refused number) = 0
+abbrev pub words_written : Result ℕ Refusal → ℕ
+words_written (Ok words) = words
+words_written (Err refusal) = 0
 
 -- so what an answer tells: the number; beside 0 the words of the file, beside any other 0
-abbrev pub Tells : Conversion → List ℕ → ℕ → Type 0
+abbrev pub Tells : Result ℕ Refusal → List ℕ → ℕ → Type 0
 Tells answer ws room =
     (conversion_number answer ≡ cu_number ws room)
     × (words_written answer ≡ cond (eqb (cu_number ws room) 0) (file_words (drawing_of ws)) 0)

@@ -1,25 +1,23 @@
 -- The CU file, its origin, boxes and dots: the paper's "The CU file and its conversion".
-use Rattle.std.specs.Prelude.{ℕ, ◌+◌, ◌-◌, ◌*◌, ◌/◌, ◌%◌, Bool, false, cond, not, ◌&&◌, ◌||◌, List, [], ◌∷◌, ltb, eqb, length}
+use Rattle.std.specs.Prelude.{ℕ, ◌+◌, ◌-◌, ◌*◌, ◌/◌, ◌%◌, Bool, cond, not, ◌&&◌, ◌||◌, List, [], ◌∷◌, ltb, eqb, length, set}
+use Rattle.std.specs.Prelude.{Option, Some, None, Result}
 use Rattle.words.specs.Word.{word, bit_of, table}
 use Rattle.words.specs.Search.{some_below, first_below, last_below}
-use Rattle.words.specs.Refusal.{first_of, not_within}
+use Rattle.words.specs.declared.refusal.Refusal.{Refusal}
+use Rattle.words.specs.Refusal.{first_of, not_within, answered}
 use Rattle.convert.specs.declared.cu.Frame.{Frame}
-use Rattle.convert.specs.declared.cu.Placed.{Placed}
+use Rattle.convert.specs.declared.cu.Places.{Places}
 use Rattle.convert.specs.declared.cu.Source.{Source}
 use Rattle.convert.specs.Writing.{Drawing}
 
--- no code is there
-abbrev pub nothing : Placed
-nothing = record { places = table 256 (λ c. 0); bad = false }
+-- a table of places with one character more; none where its code is over 255 or was there before
+abbrev pub placed_with : Places → ℕ → ℕ → Option Places
+placed_with places code place =
+    cond (ltb 255 code || ltb 0 (word places.table code)) None (Some (record { table = set places.table code place }))
 
--- a refusal's "number, zeros beside it"
-abbrev pub no_source : ℕ → Source
-no_source number =
-    record {
-      number = number;
-      places = table 256 (λ c. 0);
-      frame = record { origin = 0; left = 0; top = 0; fbbox = 0; fbbdx = 0; ascent = 0; descent = 0 };
-    }
+-- where a code stands by a table, if it is there
+abbrev pub place_in : List ℕ → ℕ → Option ℕ
+place_in places c = cond (ltb 0 (word places c)) (Some (word places c)) None
 
 module _ (ws : List ℕ) where
   -- "Word 0 is H, word 1 is WW"
@@ -64,8 +62,9 @@ module _ (ws : List ℕ) where
   unfoldable pub places_of : List ℕ
   places_of = table 256 code_place
 
-  unfoldable pub placed_of : Placed
-  placed_of = record { places = places_of; bad = bad_code }
+  -- which is made only where no code is refused
+  unfoldable pub placed_of : Option Places
+  placed_of = cond bad_code None (Some (record { table = places_of }))
 
   -- the dot at row i, column j of the character at a place; "H × WW raster words, top row first"
   unfoldable pub raster_dot : ℕ → ℕ → ℕ → ℕ
@@ -171,6 +170,10 @@ module _ (ws : List ℕ) where
         descent = frame.descent;
       }
 
+  -- the same, of what was read
+  abbrev pub drawn : Source → Drawing
+  drawn source = drawing_from source.frame source.places.table
+
   unfoldable pub drawing_of : Drawing
   drawing_of = drawing_from frame_of places_of
 
@@ -179,5 +182,5 @@ module _ (ws : List ℕ) where
   cu_file_number = first_of ((bad_size, 20) ∷ (bad_count, 21) ∷ (bad_code, 22) ∷ (no_origin, 23) ∷ [])
 
   -- what reading the file gives
-  unfoldable pub source_of : Source
-  source_of = cond (eqb cu_file_number 0) (record { number = 0; places = places_of; frame = frame_of }) (no_source cu_file_number)
+  unfoldable pub source_of : Result Source Refusal
+  source_of = answered cu_file_number (record { places = record { table = places_of }; frame = frame_of })

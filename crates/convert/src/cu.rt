@@ -1,11 +1,17 @@
 // The CU file: its characters, where their codes stand, the origin, and the boxes of the dots. Every function here answers for every
 // list of words and every place in it.
-ghost use Rattle.std.specs.Prelude.{◌≡◌, ◌+◌, ◌-◌, ◌%◌, ◌≤◌, false, cond, ◌||◌, ltb, length, set};
+ghost use Rattle.std.specs.Prelude.{◌≡◌, ltb, ◌+◌, ◌-◌, ◌%◌, ◌<◌, ◌≤◌, false};
 ghost use Rattle.words.specs.Word.{word};
-ghost use Rattle.convert.specs.Cu.{char_words, chars, bad_size, bad_count, placed_of, raster_dot, width, dot_in_row, dot_in_column, has_dot, no_origin_at, lowest_of, first_in_row, left_of, right_of, columns_across, column_used, row_used, leftmost, rightmost, top, bottom, frame_from, left_from, nothing, no_source, source_of};
+ghost use Rattle.convert.specs.Cu.{rows, char_words, chars, char_at, bad_size, bad_count, placed_with, placed_of, place_in};
+ghost use Rattle.convert.specs.Cu.{raster_dot, width, dot_in_row, dot_in_column, has_dot, lowest_of, first_in_row, left_of, right_of};
+ghost use Rattle.convert.specs.Cu.{columns_across, column_used, row_used, leftmost, rightmost, top, bottom, frame_from, left_from};
+ghost use Rattle.convert.specs.Cu.{source_of};
 
-// What all characters of a file share: the origin's column; the left column and the top row of the box round all their dots, in columns and rows of
-// the raster; and the box words.
+use crate::search;
+use words::Refusal;
+
+// What all characters of a file share: the origin's column; the left column and the top row of the box round all their dots, in columns and
+// rows of the raster; and the box words.
 #[derive(Clone, Copy)]
 pub struct Frame {
     pub origin: u16,
@@ -17,22 +23,22 @@ pub struct Frame {
     pub descent: u16,
 }
 
-// Where each code stands in the file, 0 for a code that is absent; and whether a code is over 255 or there twice.
+// Where each code stands in the file; 0, where H stands, for one that is absent. So the table takes half the memory that 256 times
+// `Option<usize>` would, and `of` answers for a code by an `Option`.
 #[derive(Clone, Copy)]
-pub struct Placed {
-    pub places: [usize; 256],
-    pub bad: bool,
+pub struct Places {
+    table: [usize; 256],
 }
 
-// What reading a file answers: the number of its refusal, and where that is 0 the places of its codes and the frame.
+// What reading a file finds: the places of its codes, and the frame.
 #[derive(Clone, Copy)]
 pub struct Source {
-    pub number: u32,
-    pub places: [usize; 256],
+    pub places: Places,
     pub frame: Frame,
 }
 
 // The word so many words past a place; 0 past the end.
+#[tactic(auto, using(words::proofs::Lists::past_end))]
 fn word_past(cu: &[u16], place: usize, words: usize) -> u16
     ensures { result ≡ word cu.now (place + words) }
 {
@@ -46,6 +52,7 @@ fn word_past(cu: &[u16], place: usize, words: usize) -> u16
 }
 
 // How many words a character has: its code, its width, and its raster.
+#[tactic(auto, unfolding(crate::specs::Cu::char_words, crate::specs::Cu::rows, crate::specs::Cu::row_words))]
 fn char_words(cu: &[u16]) -> usize
     ensures value { result ≡ char_words cu.now }
     ensures some { 2 ≤ result }
@@ -53,12 +60,22 @@ fn char_words(cu: &[u16]) -> usize
     2 + words::word_at(cu, 0) as usize * words::word_at(cu, 1) as usize
 }
 
+#[tactic(auto, unfolding(crate::specs::Cu::chars))]
 fn chars(cu: &[u16]) -> usize
     ensures { result ≡ chars cu.now }
 {
-    words::past(cu.len(), 2) / char_words(cu)
+    cu.len().saturating_sub(2) / char_words(cu)
 }
 
+// The place of the file's k-th character.
+fn char_at(cu: &[u16], k: usize) -> usize
+    requires { k < chars cu.now }
+    ensures { result ≡ char_at cu.now k }
+{
+    2 + k * char_words(cu)
+}
+
+#[tactic(auto, unfolding(crate::specs::Cu::bad_size, crate::specs::Cu::rows, crate::specs::Cu::row_words))]
 fn bad_size(cu: &[u16]) -> bool
     ensures { result ≡ bad_size cu.now }
 {
@@ -71,67 +88,54 @@ fn bad_size(cu: &[u16]) -> bool
     words::not_within(1, 16, words::word_at(cu, 1) as usize)
 }
 
+#[tactic(auto, unfolding(crate::specs::Cu::bad_count))]
 fn bad_count(cu: &[u16]) -> bool
     ensures { result ≡ bad_count cu.now }
 {
-    0 < words::past(cu.len(), 2) % char_words(cu)
+    0 < cu.len().saturating_sub(2) % char_words(cu)
 }
 
-impl Placed {
-    // "Absent" for every code.
-    fn nothing() -> Placed
-        ensures { result ≡ nothing }
-    {
-        Placed {
-            places: [0; 256],
-            bad: false,
-        }
-    }
-
-    // With one more character, which stands at a place.
-    fn with(mut self, code: u16, place: usize) -> Placed
-        ensures bad_value { result.bad ≡ (self.bad || (ltb 255 code || ltb 0 (word self.places code))) }
-        ensures places { result.places ≡ cond (ltb 255 code || ltb 0 (word self.places code)) self.places (set self.places code place) }
+impl Places {
+    // With one more character, which stands at a place; none where its code is over 255 or was there before.
+    fn with(mut self, code: u16, place: usize) -> Option<Places>
+        ensures { result ≡ placed_with self code place }
     {
         let c = code as usize;
         if 255 < c {
-            self.bad = true;
-            return self;
+            return None;
         }
-        if 0 < self.places[c] {
-            self.bad = true;
-            return self;
+        if 0 < self.table[c] {
+            return None;
         }
-        self.places[c] = place;
-        self
+        self.table[c] = place;
+        Some(self)
     }
 
-    // The table of the file's codes, filled with "absent" and then with each code's place.
-    fn of(cu: &[u16]) -> Placed
+    // The table of the file's codes, filled with "absent" and then with each code's place; none where a code is over 255 or there twice.
+    fn read(cu: &[u16]) -> Option<Places>
         ensures { result ≡ placed_of cu.now }
     {
-        let count = chars(cu);
-        let step = char_words(cu);
-        let mut placed = Placed::nothing();
-        let mut place = 2;
-        let mut k = 0;
-        while k < count {
-            placed = placed.with(words::word_at(cu, place), place);
-            place += step;
-            k += 1;
+        let mut places = Places { table: [0; 256] };
+        for k in 0..chars(cu) {
+            let place = char_at(cu, k);
+            places = places.with(words::word_at(cu, place), place)?;
         }
-        placed
+        Some(places)
     }
-}
 
-// The place of a code; 0 where it is absent.
-pub fn place(places: &[usize], c: usize) -> usize
-    ensures { result ≡ word places.now c }
-{
-    if c < places.len() {
-        return places[c];
+    // A code is there.
+    pub fn has(&self, c: usize) -> bool
+        ensures { result ≡ ltb 0 (word self.now.table c) }
+    {
+        self.of(c).is_some()
     }
-    0
+
+    // Where a code stands.
+    pub fn of(&self, c: usize) -> Option<usize>
+        ensures { result ≡ place_in self.now.table c }
+    {
+        self.table.get(c).copied().filter(|&place| 0 < place)
+    }
 }
 
 // The spacing of the character at a place.
@@ -149,7 +153,17 @@ pub fn dot(cu: &[u16], place: usize, i: u32, j: usize) -> u16
     words::bit(word_past(cu, place, 2 + row + j / 16), j % 16)
 }
 
+// The rows of a raster.
+#[tactic(auto, unfolding(crate::specs::Cu::rows))]
+fn rows(cu: &[u16]) -> usize
+    ensures value { result ≡ rows cu.now }
+    ensures small { result ≤ 65535 }
+{
+    words::word_at(cu, 0) as usize
+}
+
 // The columns of a raster.
+#[tactic(auto, unfolding(crate::specs::Cu::width, crate::specs::Cu::row_words))]
 fn width(cu: &[u16]) -> usize
     ensures value { result ≡ width cu.now }
     ensures small { result ≤ 1048560 }
@@ -157,115 +171,69 @@ fn width(cu: &[u16]) -> usize
     16 * words::word_at(cu, 1) as usize
 }
 
+#[tactic(auto, unfolding(crate::specs::Cu::dot_in_row))]
 fn dot_in_row(cu: &[u16], place: usize, i: u32) -> bool
     ensures { result ≡ dot_in_row cu.now place i }
 {
-    let columns = width(cu);
-    let mut j = 0;
-    while j < columns {
-        if dot(cu, place, i, j) == 1 {
-            return true;
-        }
-        j += 1;
-    }
-    false
+    search::some_below(width(cu), |j| dot(cu, place, i, j) == 1)
 }
 
+#[tactic(auto, unfolding(crate::specs::Cu::dot_in_column))]
 fn dot_in_column(cu: &[u16], place: usize, j: usize) -> bool
     ensures { result ≡ dot_in_column cu.now place j }
 {
-    let rows = words::word_at(cu, 0) as u32;
-    let mut i = 0;
-    while i < rows {
-        if dot(cu, place, i, j) == 1 {
-            return true;
-        }
-        i += 1;
-    }
-    false
+    search::some_below(rows(cu), |i| dot(cu, place, i as u32, j) == 1)
 }
 
+#[tactic(auto, unfolding(crate::specs::Cu::has_dot))]
 fn has_dot(cu: &[u16], place: usize) -> bool
     ensures { result ≡ has_dot cu.now place }
 {
-    let rows = words::word_at(cu, 0) as u32;
-    let mut i = 0;
-    while i < rows {
-        if dot_in_row(cu, place, i) {
-            return true;
-        }
-        i += 1;
-    }
-    false
+    search::some_below(rows(cu), |i| dot_in_row(cu, place, i as u32))
 }
 
 // The lowest row with a dot.
+#[tactic(auto, unfolding(crate::specs::Cu::lowest_of))]
 fn lowest_of(cu: &[u16], place: usize) -> u32
     ensures { result ≡ lowest_of cu.now place }
 {
-    let mut i = words::word_at(cu, 0) as u32;
-    while 0 < i {
-        i -= 1;
-        if dot_in_row(cu, place, i) {
-            return i;
-        }
-    }
-    0
+    search::last_below(rows(cu), |i| dot_in_row(cu, place, i as u32)) as u32
 }
 
 // The leftmost dot of a row.
+#[tactic(auto, unfolding(crate::specs::Cu::first_in_row))]
 fn first_in_row(cu: &[u16], place: usize, i: u32) -> usize
     ensures { result ≡ first_in_row cu.now place i }
 {
-    let columns = width(cu);
-    let mut j = 0;
-    while j < columns {
-        if dot(cu, place, i, j) == 1 {
-            return j;
-        }
-        j += 1;
-    }
-    columns
+    search::first_below(width(cu), |j| dot(cu, place, i, j) == 1)
 }
 
 // The first column of a character's box.
+#[tactic(auto, unfolding(crate::specs::Cu::left_of))]
 pub fn left_of(cu: &[u16], place: usize) -> usize
     ensures value { result ≡ left_of cu.now place }
     ensures small { result ≤ 1048560 }
 {
-    let columns = width(cu);
-    let mut j = 0;
-    while j < columns {
-        if dot_in_column(cu, place, j) {
-            return j;
-        }
-        j += 1;
-    }
-    columns
+    search::first_below(width(cu), |j| dot_in_column(cu, place, j))
 }
 
 // The last column of a character's box.
+#[tactic(auto, unfolding(crate::specs::Cu::right_of))]
 fn right_of(cu: &[u16], place: usize) -> usize
     ensures value { result ≡ right_of cu.now place }
     ensures small { result ≤ 1048560 }
 {
-    let mut j = width(cu);
-    while 0 < j {
-        j -= 1;
-        if dot_in_column(cu, place, j) {
-            return j;
-        }
-    }
-    0
+    search::last_below(width(cu), |j| dot_in_column(cu, place, j))
 }
 
 // How many columns a character's box has.
+#[tactic(auto, unfolding(crate::specs::Cu::columns_across))]
 pub fn columns_across(cu: &[u16], place: usize) -> usize
     ensures value { result ≡ columns_across cu.now place }
     ensures small { result ≤ 1048561 }
 {
     if has_dot(cu, place) {
-        return words::past(right_of(cu, place), left_of(cu, place)) + 1;
+        return right_of(cu, place).saturating_sub(left_of(cu, place)) + 1;
     }
     0
 }
@@ -274,9 +242,10 @@ pub fn columns_across(cu: &[u16], place: usize) -> usize
 pub fn offset(cu: &[u16], frame: Frame, place: usize) -> usize
     ensures { result ≡ left_from cu.now frame place - frame.left }
 {
-    words::past(left_from(cu, frame, place), frame.left as usize)
+    left_from(cu, frame, place).saturating_sub(frame.left as usize)
 }
 
+#[tactic(auto, unfolding(crate::specs::Cu::left_from))]
 fn left_from(cu: &[u16], frame: Frame, place: usize) -> usize
     ensures { result ≡ left_from cu.now frame place }
 {
@@ -287,103 +256,47 @@ fn left_from(cu: &[u16], frame: Frame, place: usize) -> usize
 }
 
 // Some character has a dot in this column.
+#[tactic(auto, unfolding(crate::specs::Cu::column_used))]
 fn column_used(cu: &[u16], j: usize) -> bool
     ensures { result ≡ column_used cu.now j }
 {
-    let count = chars(cu);
-    let step = char_words(cu);
-    let mut place = 2;
-    let mut k = 0;
-    while k < count {
-        if dot_in_column(cu, place, j) {
-            return true;
-        }
-        place += step;
-        k += 1;
-    }
-    false
+    search::some_below(chars(cu), |k| dot_in_column(cu, char_at(cu, k), j))
 }
 
 // Some character has a dot in this row.
+#[tactic(auto, unfolding(crate::specs::Cu::row_used))]
 fn row_used(cu: &[u16], i: u32) -> bool
     ensures { result ≡ row_used cu.now i }
 {
-    let count = chars(cu);
-    let step = char_words(cu);
-    let mut place = 2;
-    let mut k = 0;
-    while k < count {
-        if dot_in_row(cu, place, i) {
-            return true;
-        }
-        place += step;
-        k += 1;
-    }
-    false
+    search::some_below(chars(cu), |k| dot_in_row(cu, char_at(cu, k), i))
 }
 
+#[tactic(auto, unfolding(crate::specs::Cu::leftmost))]
 fn leftmost(cu: &[u16]) -> usize
     ensures { result ≡ leftmost cu.now }
 {
-    let columns = width(cu);
-    let mut j = 0;
-    while j < columns {
-        if column_used(cu, j) {
-            return j;
-        }
-        j += 1;
-    }
-    columns
+    search::first_below(width(cu), |j| column_used(cu, j))
 }
 
+#[tactic(auto, unfolding(crate::specs::Cu::rightmost))]
 fn rightmost(cu: &[u16]) -> usize
     ensures { result ≡ rightmost cu.now }
 {
-    let mut j = width(cu);
-    while 0 < j {
-        j -= 1;
-        if column_used(cu, j) {
-            return j;
-        }
-    }
-    0
+    search::last_below(width(cu), |j| column_used(cu, j))
 }
 
+#[tactic(auto, unfolding(crate::specs::Cu::top))]
 fn top(cu: &[u16]) -> u32
     ensures { result ≡ top cu.now }
 {
-    let rows = words::word_at(cu, 0) as u32;
-    let mut i = 0;
-    while i < rows {
-        if row_used(cu, i) {
-            return i;
-        }
-        i += 1;
-    }
-    rows
+    search::first_below(rows(cu), |i| row_used(cu, i as u32)) as u32
 }
 
+#[tactic(auto, unfolding(crate::specs::Cu::bottom))]
 fn bottom(cu: &[u16]) -> u32
     ensures { result ≡ bottom cu.now }
 {
-    let mut i = words::word_at(cu, 0) as u32;
-    while 0 < i {
-        i -= 1;
-        if row_used(cu, i) {
-            return i;
-        }
-    }
-    0
-}
-
-// No character stands at the place, or it has no dot to measure from.
-fn no_origin(cu: &[u16], place: usize) -> bool
-    ensures { result ≡ no_origin_at cu.now place }
-{
-    if 0 < place {
-        return !has_dot(cu, place);
-    }
-    true
+    search::last_below(rows(cu), |i| row_used(cu, i as u32)) as u32
 }
 
 // The word FBBox: how far the left column of all dots lies right of the origin, in two's complement.
@@ -408,53 +321,31 @@ fn frame_from(cu: &[u16], place: usize) -> Frame
         left: left as u16,
         top: first as u16,
         fbbox: fbbox(left, origin),
-        fbbdx: (words::past(rightmost(cu), left) + 1) as u16,
-        ascent: (words::past(row as usize, first as usize) + 1) as u16,
-        descent: words::past(bottom(cu) as usize, row as usize) as u16,
+        fbbdx: (rightmost(cu).saturating_sub(left) + 1) as u16,
+        ascent: (row.saturating_sub(first) + 1) as u16,
+        descent: bottom(cu).saturating_sub(row) as u16,
     }
 }
 
 impl Source {
-    fn refused(number: u32) -> Source
-        ensures { result ≡ no_source number }
-    {
-        Source {
-            number,
-            places: [0; 256],
-            frame: Frame {
-                origin: 0,
-                left: 0,
-                top: 0,
-                fbbox: 0,
-                fbbdx: 0,
-                ascent: 0,
-                descent: 0,
-            },
-        }
-    }
-
-    pub fn of(cu: &[u16]) -> Source
+    pub fn read(cu: &[u16]) -> Result<Source, Refusal>
         ensures { result ≡ source_of cu.now }
     {
         if bad_size(cu) {
-            return Source::refused(20);
+            return Err(Refusal::CuSize);
         }
         if bad_count(cu) {
-            return Source::refused(21);
+            return Err(Refusal::CuCutShort);
         }
-        let placed = Placed::of(cu);
-        if placed.bad {
-            return Source::refused(22);
-        }
-        let places = placed.places;
-        let place = places[65];
-        if no_origin(cu, place) {
-            return Source::refused(23);
-        }
-        Source {
-            number: 0,
-            places,
-            frame: frame_from(cu, place),
+        let Some(places) = Places::read(cu) else {
+            return Err(Refusal::CuCodes);
+        };
+        match places.of(65) {
+            Some(place) if has_dot(cu, place) => Ok(Source {
+                places,
+                frame: frame_from(cu, place),
+            }),
+            _ => Err(Refusal::CuOrigin),
         }
     }
 }

@@ -1,14 +1,14 @@
 -- What the loops over the rows of a band have in common: where they are, and what a turn adds, for one word of a row and for four.
 use Prim.Native.Nat.{ℕ, ◌+◌, ◌*◌, ◌<◌, ◌≤◌}
 use mathlib.Core.Path.{◌≡◌, refl, sym, ap, ap₂, ◌∙◌}
-use native.Mathlib.Nat.{add-mul, one-mul, zero-mul, mul-le-mul_right, mul-le-mul, lt_of_le_of_lt}
+use native.Mathlib.Nat.{lt_of_le_of_lt}
 use native.Mathlib.Omega.{arith}
 use lib.Bits.{bit_and, and_block, and_le_l, and_le_r, and_lt}
 use lib.Count.{ones, ones_cat, ones-le}
 use Rattle.words.specs.Search.{sum_below}
 use Rattle.words.proofs.Search.{sum_more}
 use Rattle.counts.specs.declared.Band.{Band}
-use Rattle.counts.specs.Band.{mask_of, lit_in_word, lit_in_words, four_of, four_at, Inside}
+use Rattle.counts.specs.Band.{mask_of, lit_in_word, lit_in_words, four_of, four_at, AreWords, Inside}
 use Rattle.counts.proofs.Bands.{mask_lt}
 
 -- a band that is another, in as much room
@@ -20,46 +20,17 @@ module _ (b : Band) (w : ℕ) where
   abbrev place : ℕ → ℕ
   place row = b.at + w + row * b.rowwords
 
-  pub first-place : b.at + w ≡ place 0
-  first-place = let none = zero-mul b.rowwords in omega (arith, none)
-
-  pub next_place : (row at : ℕ) → at ≡ place row → at + b.rowwords ≡ place (row + 1)
-  next_place row at here =
-      let more = add-mul row 1 b.rowwords in
-      let one = one-mul b.rowwords in
-      omega (arith, here, more, one)
-
-  -- a row that is still there is inside
-  module _ (room row : ℕ) (inside : Inside b room) (within : w ≤ b.last) (less : row < b.rows) where
-    rows-below : row * b.rowwords + b.rowwords ≤ b.rows * b.rowwords
-    rows-below =
-        let below : (row + 1) * b.rowwords ≤ b.rows * b.rowwords = mul-le-mul_right b.rowwords (omega (arith, less)) in
-        let more = add-mul row 1 b.rowwords in
-        let one = one-mul b.rowwords in
-        omega (arith, below, more, one)
-
-    pub place_inside : place row < room
-    place_inside = let below = rows-below in let end = inside.4 in omega (arith, below, end, within)
-
-    pub place-low : place row + b.rowwords ≤ 131071
-    place-low =
-        let below = rows-below in
-        let most : b.rows * b.rowwords ≤ 256 * 128 = mul-le-mul inside.0 inside.2 in
-        let at = inside.3 in
-        let last = inside.1 in
-        omega (arith, below, most, at, last, within)
-
   -- its lit dots in one row more
   module _ (f : ℕ → ℕ) where
     pub none-counted : 0 ≡ lit_in_word b f w 0
     unfolding lit_in_word sum_below
     none-counted = refl
 
-    pub row-counted : (row sum at d m : ℕ) → sum ≡ lit_in_word b f w row → at ≡ place row → d ≡ f at → m ≡ mask_of b w
+    pub row-counted : (row sum d m : ℕ) → sum ≡ lit_in_word b f w row → d ≡ f (place row) → m ≡ mask_of b w
         → sum + ones (bit_and d m) ≡ lit_in_word b f w (row + 1)
     unfolding lit_in_word
-    row-counted row sum at d m so_far here read masked =
-        ap₂ ◌+◌ so_far (ap₂ (λ (x y : ℕ). ones (bit_and x y)) (read ∙ ap f here) masked)
+    row-counted row sum d m so_far read masked =
+        ap₂ ◌+◌ so_far (ap₂ (λ (x y : ℕ). ones (bit_and x y)) read masked)
         ∙ sym (sum_more (λ i. ones (bit_and (f (place i)) (mask_of b w))) row)
 
   -- a word has sixteen dots
@@ -104,16 +75,19 @@ module _ (b : Band) (f : ℕ → ℕ) (w : ℕ) where
   none-in-four = refl
 
   module _ (hh : b.head < 65536) (ht : b.tail < 65536) where
-    pub row-in-four : (row sum at x m : ℕ) → ((i : ℕ) → f i < 65536) → sum ≡ in_four row → at ≡ b.at + w + row * b.rowwords
+    pub row-in-four : (row sum at x m : ℕ) → AreWords f at → sum ≡ in_four row → at ≡ b.at + w + row * b.rowwords
         → x ≡ four_at f at → m ≡ four_at (mask_of b) w → sum + ones (bit_and x m) ≡ in_four (row + 1)
     row-in-four row sum at x m words so_far here read masked =
         let all = ap₂ (λ (p q : ℕ). ones (bit_and p q)) read masked
         ∙ four-dots (f at) (f (at + 1)) (f (at + 2)) (f (at + 3)) (mask_of b w) (mask_of b (w + 1)) (mask_of b (w + 2)) (mask_of b (w + 3))
-        (words _) (words _) (words _) (mask_lt b w hh ht) (mask_lt b (w + 1) hh ht) (mask_lt b (w + 2) hh ht) in
-        let one = row-counted b w f row (lit_in_word b f w row) at _ _ refl here refl refl in
-        let two = row-counted b (w + 1) f row (lit_in_word b f (w + 1) row) (at + 1) _ _ refl (omega (arith, here)) refl refl in
-        let three = row-counted b (w + 2) f row (lit_in_word b f (w + 2) row) (at + 2) _ _ refl (omega (arith, here)) refl refl in
-        let four = row-counted b (w + 3) f row (lit_in_word b f (w + 3) row) (at + 3) _ _ refl (omega (arith, here)) refl refl in
+        words.0 words.1 words.2 (mask_lt b w hh ht) (mask_lt b (w + 1) hh ht) (mask_lt b (w + 2) hh ht) in
+        let one = row-counted b w f row (lit_in_word b f w row) _ _ refl (ap f here) refl in
+        let next_1 : at + 1 ≡ b.at + (w + 1) + row * b.rowwords = omega (arith, here) in
+        let two = row-counted b (w + 1) f row (lit_in_word b f (w + 1) row) _ _ refl (ap f next_1) refl in
+        let next_2 : at + 2 ≡ b.at + (w + 2) + row * b.rowwords = omega (arith, here) in
+        let three = row-counted b (w + 2) f row (lit_in_word b f (w + 2) row) _ _ refl (ap f next_2) refl in
+        let next_3 : at + 3 ≡ b.at + (w + 3) + row * b.rowwords = omega (arith, here) in
+        let four = row-counted b (w + 3) f row (lit_in_word b f (w + 3) row) _ _ refl (ap f next_3) refl in
         omega (arith, so_far, all, one, two, three, four)
 
   pub words-in-four : in_four b.rows + lit_in_words b f w ≡ lit_in_words b f (w + 4)

@@ -14,5 +14,6 @@ pub mod Copying
 pub mod Settling
 pub mod Trying
 pub mod Reached
+pub mod Calling
 pub mod Painting
 pub mod Outcomes

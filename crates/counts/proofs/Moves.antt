@@ -7,13 +7,13 @@ use native.Mathlib.Nat.{mul-le-mul}
 use native.Mathlib.Omega.{arith}
 use lib.Dec.{ltb}
 use borrow.Author.Tests.{lt-ltb, le-ltb, ltb-true, ltb-false}
-use Rattle.words.specs.Word.{word, over}
+use Rattle.words.specs.Word.{word}
 use Rattle.words.specs.Search.{some_below}
 use Rattle.words.specs.Refusal.{first_of}
 use Rattle.words.proofs.Search.{none_left, none_right, some_same}
 use Rattle.paint.specs.declared.Shape.{Shape}
 use Rattle.counts.specs.Lit.{area, some_over, leaves}
-use Rattle.counts.specs.Band.{settled_number, settled_by}
+use Rattle.counts.specs.Band.{settled_number}
 use Rattle.counts.proofs.Balance.{area-is}
 
 -- a product of two numbers of 32 bits
@@ -58,21 +58,19 @@ module _ (most held more fewer : ℕ) where
   unfolding leaves
   not-above h = ltb-false (most + fewer) (held + more) (none_right (ltb (held + more) fewer) _ h)
 
--- what applying and clearing answer, by the tests
+-- by what applying and clearing are refused, by the tests
 module _ (s : Shape) (counts : List ℕ) (left lit : ℕ → ℕ) where
   abbrev some_leaving : Bool
   some_leaving = some_below 32 (λ k. leaves (s.width * s.rows) (word counts k) (left k) (lit k))
 
-  pub settled-over : some_over s counts ≡ true → record { number = 30; counts = counts } ≡ settled_by s counts left lit
-  unfolding settled_by settled_number first_of
+  pub settled-over : some_over s counts ≡ true → 30 ≡ settled_number s counts left lit
+  unfolding settled_number first_of
   settled-over h = rw h
 
-  pub settled-leaving : some_over s counts ≡ false → some_leaving ≡ true
-      → record { number = 30; counts = counts } ≡ settled_by s counts left lit
-  unfolding settled_by settled_number first_of
+  pub settled-leaving : some_over s counts ≡ false → some_leaving ≡ true → 30 ≡ settled_number s counts left lit
+  unfolding settled_number first_of
   settled-leaving h k = rw (h, k)
 
-  pub settled-moved : some_over s counts ≡ false → some_leaving ≡ false
-      → record { number = 0; counts = over 32 (λ k. word counts k + left k - lit k) counts } ≡ settled_by s counts left lit
-  unfolding settled_by settled_number first_of
+  pub settled-moved : some_over s counts ≡ false → some_leaving ≡ false → 0 ≡ settled_number s counts left lit
+  unfolding settled_number first_of
   settled-moved h k = rw (h, k)

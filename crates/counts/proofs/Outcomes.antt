@@ -18,10 +18,10 @@ pub apply-one : (κs : Lfts 3) (a : Dens κs apply.Kinds.ps) (r o : (res_t apply
     (e e' : AtExit (ended_of 3 apply.Kinds.ps apply.Kinds.r) κs)
     → apply.Reads.Post κs a r e → apply.Reads.Post κs a o e'
     → (r ≡ o) × (e.1.1.1.0.now ≡ e'.1.1.1.0.now)
-apply-one κs a r o e e' p q = (p.0 ∙ sym q.0, p.1 ∙ sym q.1)
+apply-one κs a r o e e' p q = (p.0 ∙ sym q.0, p.1.0 ∙ sym q.1.0)
 
 pub clear-one : (κs : Lfts 1) (a : Dens κs clear.Kinds.ps) (r o : (res_t clear.Kinds.r κs).Denot)
     (e e' : AtExit (ended_of 1 clear.Kinds.ps clear.Kinds.r) κs)
     → clear.Reads.Post κs a r e → clear.Reads.Post κs a o e'
     → (r ≡ o) × (e.1.0.now ≡ e'.1.0.now)
-clear-one κs a r o e e' p q = (p.0 ∙ sym q.0, p.1 ∙ sym q.1)
+clear-one κs a r o e e' p q = (p.0 ∙ sym q.0, p.1.0 ∙ sym q.1.0)

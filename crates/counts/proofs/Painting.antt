@@ -8,9 +8,13 @@ use native.Mathlib.Nat.{zero-add}
 use native.Mathlib.Omega.{arith}
 use lib.Dec.{eqb}
 use lib.ListN.{length, set}
-use borrow.Author.Tests.{ne_eqb}
 use Rattle.words.specs.Word.{word, over}
-use Rattle.words.specs.Refusal.{first_of, or_else}
+use Rattle.std.specs.declared.result.Result.{Result}
+use Rattle.std.specs.declared.result.Result.TheVariants.{Ok, Err}
+use Rattle.words.specs.declared.refusal.Refusal.{Refusal}
+use Rattle.words.specs.declared.refusal.Refusal.TheVariants.{LitDots}
+use Rattle.words.specs.Refusal.{number_of, returned, first_of}
+use Rattle.words.proofs.Refusals.{answered-refusal}
 use Rattle.words.specs.Effect.{altered}
 use Rattle.words.proofs.Altering.{AllWords, altered-length}
 use Rattle.words.proofs.Over.{over-one}
@@ -18,37 +22,71 @@ use Rattle.fonts.specs.declared.View.{View}
 use Rattle.fonts.specs.Face.{Face, face_from, face_of}
 use Rattle.paint.specs.declared.Shape.{Shape}
 use Rattle.paint.specs.declared.Label.{Label}
-use Rattle.paint.specs.declared.Reply.{Reply}
+use Rattle.paint.specs.declared.Finish.{Finish}
 use Rattle.paint.specs.Panel.{panel_words}
-use Rattle.paint.specs.Label.{Call, call_of, number_with, call_number, effect_with, paint_after, paint_with, reply_for, reply_of, last_pen}
-use Rattle.paint.proofs.Replies.{number_read, paint-read, replies-refused}
+use Rattle.paint.specs.Label.{Call, call_of, number_with, call_number}
+use Rattle.paint.specs.Label.{effect_with, paint_after, paint_with, finish_of, reply_for, reply_of, last_pen}
+use Rattle.paint.proofs.Replies.{number_read, paint-read}
 use Rattle.paint.proofs.Accepted.{accepted-label}
-use Rattle.counts.specs.Lit.{lit, area, gained, lost, leaves, some_over, count_number, new_counts, counted_of}
-use Rattle.counts.specs.Calls.{paint_counted, painted_of, refused_by}
+use Rattle.counts.specs.Lit.{lit, area, gained, lost, leaves, some_over, count_number, new_counts}
+use Rattle.counts.specs.Calls.{paint_counted, painted_of, painted_by}
 use Rattle.counts.specs.Band.{lit_reached, left_reached, Read}
 use Rattle.counts.proofs.Apart.{none-gained, none-lost}
 use Rattle.counts.proofs.Agreeing.{own-decides}
 use Rattle.counts.proofs.Balance.{balance}
 use Rattle.counts.proofs.Settling.{leaves-same, leaves_alike}
+use Rattle.counts.proofs.Settling.{own-number, counts-number, panel-stays, counts-stay, panel-done, counts-done}
 use Rattle.counts.proofs.Reached.{reached-alone}
 
--- ---- a call that another number refuses
+-- what a call answers, and the panel that it leaves
+abbrev pub Answers : Result (Finish × List ℕ) Refusal → List ℕ → Shape → Call → List ℕ → List ℕ → Type 0
+Answers answer left s call panel counts =
+    (painted_by answer counts ≡ painted_of s call panel counts)
+    × (returned answer ≡ (paint_counted s call panel counts).number)
+    × (left ≡ (paint_counted s call panel counts).panel)
 
-module _ (s : Shape) (call : Call) (panel counts : List ℕ) (n : ℕ) (e : n ≡ call_number s (length panel ∷ []) call) (some : n ≡ 0 → ⊥) where
-  pub refused-before : (refused_by n counts ≡ painted_of s call panel counts) × (panel ≡ (paint_counted s call panel counts).panel)
-  unfolding counted_of or_else
-  refused-before =
-      let other = ne_eqb n 0 some in
-      let pen = last_pen (face_of call.font) call.label.x call.text in
-      rw (← e) (rw (other, other) ((λ i. record { reply = replies-refused n n pen refl some i; counts = counts }), refl))
+module _ (s : Shape) (call : Call) (panel counts : List ℕ) where
+  -- ---- a call that is refused
 
--- ---- one that a count over its strip's dots refuses
+  refused-as : (refusal : Refusal) → number_of refusal ≡ (paint_counted s call panel counts).number
+      → Answers (Err refusal) panel s call panel counts
+  refused-as refusal e =
+      let own = call_number s (length panel ∷ []) call in
+      let after = paint_after s call panel in
+      let finish = finish_of (last_pen (face_of call.font) call.label.x call.text) in (
+        (λ i. record { reply = answered-refusal refusal _ finish e i; counts = counts-stay s own panel after counts refusal e i }),
+        e,
+        panel-stays s own panel after counts refusal e,
+      )
 
-module _ (s : Shape) (call : Call) (panel counts : List ℕ) (accepted : call_number s (length panel ∷ []) call ≡ 0)
-    (over-it : some_over s counts ≡ true) where
-  pub refused-for-over : (refused_by 30 counts ≡ painted_of s call panel counts) × (panel ≡ (paint_counted s call panel counts).panel)
-  unfolding counted_of or_else count_number first_of reply_for
-  refused-for-over = rw accepted (rw over-it (refl, refl))
+  -- by another number
+  pub refused-before : (refusal : Refusal) → number_of refusal ≡ call_number s (length panel ∷ []) call
+      → Answers (Err refusal) panel s call panel counts
+  refused-before refusal e = refused-as refusal (own-number s _ panel (paint_after s call panel) counts refusal e)
+
+  -- for the counts
+  module _ (accepted : call_number s (length panel ∷ []) call ≡ 0) where
+    refused-for-counts : count_number s panel (paint_after s call panel) counts ≡ 30 → Answers (Err LitDots) panel s call panel counts
+    refused-for-counts e = refused-as LitDots (counts-number s _ panel (paint_after s call panel) counts 30 (sym accepted) (sym e))
+
+    pub refused-for-over : some_over s counts ≡ true → Answers (Err LitDots) panel s call panel counts
+    unfolding count_number first_of
+    refused-for-over over-it = refused-for-counts (rw over-it)
+
+    -- ---- one that is done
+    pub done-as : count_number s panel (paint_after s call panel) counts ≡ 0 → (finish : Finish) (new : List ℕ)
+        → Ok finish ≡ reply_of s (length panel ∷ []) call → new ≡ new_counts s panel (paint_after s call panel) counts
+        → Answers (Ok (finish, new)) (paint_after s call panel) s call panel counts
+    unfolding reply_of
+    done-as none finish new reply same =
+        let own = call_number s (length panel ∷ []) call in
+        let after = paint_after s call panel in
+        let number = counts-number s own panel after counts 0 (sym accepted) (sym none) in
+        let told = reply ∙ ap (λ (n : ℕ). reply_for n (last_pen (face_of call.font) call.label.x call.text)) (accepted ∙ number) in (
+          (λ i. record { reply = told i; counts = (same ∙ counts-done s own panel after counts number) i }),
+          number,
+          panel-done s own panel after counts number,
+        )
 
 -- ---- the panel stays as long
 
@@ -110,12 +148,10 @@ module _ (v : View) (font : List ℕ) (s : Shape) (l : Label) (text panel counts
         own-decides s call panel counts words k own-strip refl
         ∙ ap₂ (λ t u. first_of ((t || u, 30) ∷ [])) none_over (sym own-leaves)
 
-    pub refused-by-30 : leaves (s.width * s.rows) held left were ≡ true
-        → (refused_by 30 counts ≡ painted_of s call panel counts) × (panel ≡ (paint_counted s call panel counts).panel)
-    unfolding counted_of or_else first_of reply_for
+    pub refused-by-30 : leaves (s.width * s.rows) held left were ≡ true → Answers (Err LitDots) panel s call panel counts
+    unfolding first_of
     refused-by-30 out =
-        let thirty : count_number s panel after counts ≡ 30 = decided ∙ ap (λ t. first_of ((false || t, 30) ∷ [])) out in
-        rw number_is (rw thirty (refl, refl))
+        refused-for-counts s call panel counts number_is (decided ∙ ap (λ t. first_of ((false || t, 30) ∷ [])) out)
 
     -- only its own count moves
     one-count : new_counts s panel after counts ≡ set counts k (held + left - were)
@@ -138,12 +174,10 @@ module _ (v : View) (font : List ℕ) (s : Shape) (l : Label) (text panel counts
         ∙ ap (λ (n : ℕ). set counts n (f n)) (zero-add k)
         ∙ ap (set counts k) own
 
-    pub done-by : leaves (s.width * s.rows) held left were ≡ false → (reply : Reply) → reply ≡ reply_of s (length panel ∷ []) call
-        → (record { reply = reply; counts = set counts k (held + left - were) } ≡ painted_of s call panel counts)
-        × (after ≡ (paint_counted s call panel counts).panel)
-    unfolding counted_of or_else first_of reply_of
-    done-by stays reply same =
-        let none : count_number s panel after counts ≡ 0 = decided ∙ ap (λ t. first_of ((false || t, 30) ∷ [])) stays in
-        let pen = last_pen (face_of font) l.x text in
-        let told = same ∙ ap (λ (n : ℕ). reply_for n pen) number_is in
-        rw number_is (rw none ((λ i. record { reply = told i; counts = sym one-count i }), refl))
+    pub done-by : leaves (s.width * s.rows) held left were ≡ false → (finish : Finish)
+        → Ok finish ≡ reply_of s (length panel ∷ []) call → (new : List ℕ) → new ≡ set counts k (held + left - were)
+        → Answers (Ok (finish, new)) after s call panel counts
+    unfolding first_of
+    done-by stays finish reply new same =
+        let none = decided ∙ ap (λ t. first_of ((false || t, 30) ∷ [])) stays in
+        done-as s call panel counts number_is none finish new reply (same ∙ sym one-count)

@@ -1,16 +1,20 @@
 -- Applying and clearing with counts: the strips of an accepted panel are within it, and what `settle` answers by the dots that are left lit
 -- and those that were lit is what the definition says by the dots gained and lost.
-use Prim.Native.Nat.{ℕ, ◌+◌, ◌-◌, ◌*◌, ◌/◌, ◌%◌, ◌<◌, ◌≤◌}
+use Prim.Native.Nat.{ℕ, ◌+◌, ◌-◌, ◌*◌, ◌/◌, ◌%◌, ◌<◌, ◌≤◌, min}
 use mathlib.Core.Path.{◌≡◌, refl, sym, ap, ap₂, ◌∙◌}
-use mathlib.Core.Bool.{Bool, true, false, cond, ◌||◌}
+use mathlib.Core.Bool.{Bool, true, false, ◌||◌}
 use mathlib.Core.List.{List, [], ◌∷◌}
 use native.Mathlib.Nat.{add-mul, mul_comm, mul-le-mul, mul-le-mul_right}
 use native.Mathlib.Omega.{arith}
-use lib.Dec.{eqb, ltb}
+use lib.Dec.{ltb}
 use lib.ListN.{length}
 use borrow.Author.Tests.{ltb-true, ltb-false, lt-ltb, le-ltb}
 use Rattle.words.specs.Word.{word, over, table, bit_of}
-use Rattle.words.specs.Refusal.{first_of, or_else, not_within}
+use Rattle.std.specs.declared.result.Result.TheVariants.{Ok, Err}
+use Rattle.words.specs.declared.refusal.Refusal.{Refusal}
+use Rattle.words.specs.Refusal.{number_of, first_of, not_within}
+use Rattle.words.proofs.Chain.{stage-stops, stage-goes-on}
+use Rattle.words.proofs.Refusals.{number-not-0, answered-value, answered-refusal}
 use Rattle.words.proofs.Altering.{from_zero}
 use Rattle.words.proofs.Digits.{bit-zero}
 use Rattle.words.proofs.Over.{over-at, over-same}
@@ -22,13 +26,13 @@ use Rattle.paint.specs.Panel.{strip_of, panel_words, bad_sides, bad_shape, some_
 use Rattle.paint.specs.Rule.{panel_dot}
 use Rattle.paint.specs.Sheet.{Sheet, effect_at}
 use Rattle.paint.proofs.Accepted.{good-panel, strip-fits}
+use Rattle.paint.proofs.Slices.{shorter-number}
 use Rattle.sheets.specs.Sheet.{apply_number, apply_after, clear_number, clear_after}
-use Rattle.sheets.proofs.Done.{done, refused}
+use Rattle.sheets.proofs.Done.{done, refused-as}
 use Rattle.counts.specs.declared.Band.{Band}
-use Rattle.counts.specs.declared.Settled.{Settled}
-use Rattle.counts.specs.Lit.{lit, area, gained, lost, leaves, some_over, some_leaves, count_number, new_counts, counted_of}
-use Rattle.counts.specs.Band.{band_of, lit_in_words, applied_word, settled_number, settled_by, Inside}
-use Rattle.counts.specs.Calls.{settled_of}
+use Rattle.counts.specs.Lit.{lit, area, gained, lost, leaves, some_over, some_leaves, count_number, new_counts, Counted, counted_of}
+use Rattle.counts.specs.Band.{band_of, lit_in_words, lit_by, applied_word, settled_number, settled_counts, Inside}
+use Rattle.counts.specs.Calls.{settled_of, settled_by}
 use Rattle.counts.proofs.Sums.{dots-none}
 use Rattle.counts.proofs.Balance.{balance, area-is}
 use Rattle.counts.proofs.Bands.{band-dots, band-known}
@@ -117,6 +121,25 @@ module _ (s : Shape) (sheet : Sheet) (panel : List ℕ) (accepted : apply_number
   applied-word i less =
       rw accepted (sym (from_zero (effect_at sheet) panel (panel_words s) i less (good-panel s (length panel) sheet-good.2).long))
 
+-- the shortest of three slices decides for all
+pub shortest-number : (s : Shape) (a b c : ℕ) → panel_number s (min (min a b) c ∷ []) ≡ panel_number s (a ∷ b ∷ c ∷ [])
+shortest-number s a b c = shorter-number s (min a b) c [] ∙ shorter-number s a b (c ∷ [])
+
+-- ---- the lit dots of all strips
+
+-- of a panel
+pub all-lit : (s : Shape) (panel : List ℕ) → bad_panel s (length panel ∷ []) ≡ false
+    → table 32 (λ k. lit_by s k (word panel)) ≡ table 32 (λ k. lit s k panel)
+all-lit s panel good = table_same 32 _ _ (λ k less. strip-lit s k (length panel) good (band_of s k 0 s.rows) refl panel)
+
+-- and of one as a sheet, applied, leaves it
+pub all_left : (s : Shape) (sheet : Sheet) (panel : List ℕ) → apply_number s sheet panel ≡ 0
+    → table 32 (λ k. lit_by s k (applied_word sheet panel)) ≡ table 32 (λ k. lit s k (apply_after s sheet panel))
+all_left s sheet panel accepted =
+    table_same 32 _ _ (λ k less.
+    strip-known s k (length panel) (sheet-good s sheet panel accepted).2 (band_of s k 0 s.rows) refl (applied_word sheet panel)
+    (apply_after s sheet panel) (omega (arith, less)) (applied-word s sheet panel accepted))
+
 -- ---- a cleared panel
 
 module _ (s : Shape) (panel : List ℕ) (good : bad_panel s (length panel ∷ []) ≡ false) where
@@ -167,54 +190,63 @@ module _ (s : Shape) (before after : List ℕ) (k held : ℕ) where
 -- ---- what the calls answer
 
 module _ (s : Shape) (own : ℕ) (before after counts : List ℕ) where
-  -- refused without counts
-  pub refused-by-8 : 8 ≡ own
-      → (record { number = 8; counts = counts } ≡ settled_of (counted_of s own before after counts))
-      × (before ≡ (counted_of s own before after counts).panel)
-  unfolding counted_of or_else
-  refused-by-8 e = rw (← e) (refl, refl)
+  abbrev whole : Counted
+  whole = counted_of s own before after counts
+
+  -- "30, after 12"
+  pub own-number : (refusal : Refusal) → number_of refusal ≡ own → number_of refusal ≡ whole.number
+  unfolding counted_of
+  own-number refusal e = stage-stops (number_of refusal) own _ e (number-not-0 refusal)
+
+  pub counts-number : (n : ℕ) → 0 ≡ own → n ≡ count_number s before after counts → n ≡ whole.number
+  unfolding counted_of
+  counts-number n accepted e = stage-goes-on n 0 own _ accepted refl e
+
+  -- a refusal hands back the counts given, and the panel stays
+  module _ (refusal : Refusal) (e : number_of refusal ≡ whole.number) where
+    pub panel-stays : before ≡ whole.panel
+    unfolding counted_of
+    panel-stays = refused-as whole.number after before refusal e
+
+    pub counts-stay : counts ≡ whole.counts
+    unfolding counted_of
+    counts-stay = refused-as whole.number (new_counts s before after counts) counts refusal e
+
+    pub settled-refused : settled_by (Err refusal) counts ≡ settled_of whole
+    settled-refused = λ i. record { reply = answered-refusal refusal whole.number tt e i; counts = counts-stay i }
+
+  -- a call that is done hands back the new ones
+  module _ (e : 0 ≡ whole.number) where
+    pub panel-done : after ≡ whole.panel
+    unfolding counted_of
+    panel-done = done whole.number after before e
+
+    pub counts-done : new_counts s before after counts ≡ whole.counts
+    unfolding counted_of
+    counts-done = done whole.number (new_counts s before after counts) counts e
+
+    pub settled-done : (new : List ℕ) → new ≡ new_counts s before after counts → settled_by (Ok new) counts ≡ settled_of whole
+    settled-done new same = λ i. record { reply = answered-value whole.number tt e i; counts = (same ∙ counts-done) i }
 
   -- accepted without counts: by the dots that are left lit in each strip, and those that were
-  module _ (accepted : 0 ≡ own) (left were : List ℕ) (ends : left ≡ table 32 (λ k. lit s k after))
-      (began : were ≡ table 32 (λ k. lit s k before)) where
+  module _ (left were : List ℕ) (ends : left ≡ table 32 (λ k. lit s k after)) (began : were ≡ table 32 (λ k. lit s k before)) where
     left_at : (k : ℕ) → k < 32 → word left k ≡ lit s k after
     left_at k less = rw ends (table_at 32 (λ k. lit s k after) k less)
 
     were-at : (k : ℕ) → k < 32 → word were k ≡ lit s k before
     were-at k less = rw began (table_at 32 (λ k. lit s k before) k less)
 
-    number_is : settled_number s counts (word left) (word were) ≡ count_number s before after counts
+    pub settled-number : 0 ≡ own → settled_number s counts (word left) (word were) ≡ whole.number
     unfolding settled_number count_number some_leaves
-    number_is =
-        ap (λ (t : Bool). first_of ((some_over s counts || t, 30) ∷ []))
+    settled-number accepted =
+        counts-number _ accepted
+        (ap (λ (t : Bool). first_of ((some_over s counts || t, 30) ∷ []))
         (some_same 32 _ _ (λ k less.
         ap₂ (leaves (s.width * s.rows) (word counts k)) (left_at k less) (were-at k less)
-        ∙ leaves_alike s before after k (word counts k)))
+        ∙ leaves_alike s before after k (word counts k))))
 
-    counts-are : over 32 (λ k. word counts k + word left k - word were k) counts ≡ new_counts s before after counts
-    unfolding new_counts
+    pub counts-are : settled_counts counts (word left) (word were) ≡ new_counts s before after counts
+    unfolding new_counts settled_counts
     counts-are =
         over-same 32 _ _ counts (λ k less.
         ap₂ (λ (m f : ℕ). word counts k + m - f) (left_at k less) (were-at k less) ∙ moves-alike s before after k (word counts k))
-
-    pub settled_is : settled_by s counts (word left) (word were) ≡ settled_of (counted_of s own before after counts)
-    unfolding settled_by counted_of or_else
-    settled_is =
-        rw (← accepted)
-        (λ i. record { number = number_is i; counts = cond (eqb (number_is i) 0) (counts-are i) counts })
-
-  -- the panel, where the answer's number is 0 and where it is not
-  module _ (answer : Settled) (is : answer ≡ settled_of (counted_of s own before after counts)) where
-    abbrev number : ℕ
-    number = (counted_of s own before after counts).number
-
-    number-told : answer.number ≡ number
-    number-told = ap (λ (a : Settled). a.number) is
-
-    pub panel-done : answer.number ≡ 0 → after ≡ (counted_of s own before after counts).panel
-    unfolding counted_of
-    panel-done none = done number after before (sym none ∙ number-told)
-
-    pub panel-stays : (answer.number ≡ 0 → ⊥) → before ≡ (counted_of s own before after counts).panel
-    unfolding counted_of
-    panel-stays some = refused number after before answer.number number-told some

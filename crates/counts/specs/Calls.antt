@@ -1,11 +1,14 @@
 -- "Painting, applying a sheet and clearing a panel hand back the new counts." The three calls, and lists of them.
 use Rattle.std.specs.Prelude.{ℕ, cond, List, [], ◌∷◌, map, eqb, length}
+use Rattle.std.specs.declared.result.Result.{Result}
+use Rattle.std.specs.declared.result.Result.TheVariants.{Ok, Err}
+use Rattle.words.specs.declared.refusal.Refusal.{Refusal}
+use Rattle.words.specs.Refusal.{answered}
 use Rattle.words.specs.Word.{word}
 use Rattle.fonts.specs.Face.{face_of}
 use Rattle.paint.specs.declared.Shape.{Shape}
-use Rattle.paint.specs.declared.Reply.{Reply}
-use Rattle.paint.specs.declared.Reply.TheVariants.{Refused}
-use Rattle.paint.specs.Label.{Call, call_number, paint_after, last_pen, reply_for, Tells}
+use Rattle.paint.specs.declared.Finish.{Finish}
+use Rattle.paint.specs.Label.{Call, Reply, call_number, paint_after, last_pen, reply_for, Tells}
 use Rattle.paint.specs.Sheet.{Sheet}
 use Rattle.sheets.specs.Sheet.{apply_number, apply_after, clear_number, clear_after}
 use Rattle.counts.specs.declared.Painted.{Painted}
@@ -21,8 +24,10 @@ painted_of s call panel counts =
     let c = paint_counted s call panel counts in
     record { reply = reply_for c.number (last_pen (face_of call.font) call.label.x call.text); counts = c.counts }
 
-abbrev pub refused_by : ℕ → List ℕ → Painted
-refused_by number counts = record { reply = Refused number; counts = counts }
+-- by the finish and the new counts, or by the refusal, and then by the counts given
+abbrev pub painted_by : Result (Finish × List ℕ) Refusal → List ℕ → Painted
+painted_by (Ok done) given = record { reply = Ok done.0; counts = done.1 }
+painted_by (Err refusal) given = record { reply = Err refusal; counts = given }
 
 -- "returns its number, pen 0, substitutes 0"
 abbrev pub TellsPainted : Reply → Shape → Call → List ℕ → List ℕ → Type 0
@@ -39,7 +44,11 @@ clear_counted s panel counts = counted_of s (clear_number s panel) panel (clear_
 
 -- what applying and clearing answer
 abbrev pub settled_of : Counted → Settled
-settled_of c = record { number = c.number; counts = c.counts }
+settled_of c = record { reply = answered c.number tt; counts = c.counts }
+
+abbrev pub settled_by : Result (List ℕ) Refusal → List ℕ → Settled
+settled_by (Ok new) given = record { reply = Ok tt; counts = new }
+settled_by (Err refusal) given = record { reply = Err refusal; counts = given }
 
 -- "over any list of such calls for one panel size"
 pub data PanelCall : Type 0 where

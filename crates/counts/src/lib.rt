@@ -1,35 +1,73 @@
 // The lit dots of the thirty-two strips, kept beside the panel by value: painting, applying and clearing hand back the new counts.
 #![tactic(auto)]
 
-ghost use Rattle.std.specs.Prelude.{◌≡◌, [], ◌∷◌, true, false, cond, eqb, ltb, ◌+◌, ◌-◌, ◌*◌, ◌≤◌, ◌<◌, length, set};
+ghost use Rattle.std.specs.Prelude.{◌≡◌, ℕ, min, [], ◌∷◌, true, false, cond, eqb, ltb, ◌+◌, ◌-◌, ◌*◌, ◌≤◌, ◌<◌, length, set};
 ghost use Rattle.words.specs.Word.{word, table};
-ghost use Rattle.fonts.specs.Face.{face_from};
+ghost use Rattle.words.specs.Refusal.{returned, answered};
 ghost use Rattle.paint.specs.Panel.{bad_panel};
-ghost use Rattle.paint.specs.Label.{call_of, number_with, paint_with};
+ghost use Rattle.paint.specs.Label.{call_of};
 ghost use Rattle.paint.specs.Sheet.{sheet_of};
-ghost use Rattle.sheets.specs.Sheet.{apply_number, apply_after};
 ghost use Rattle.counts.specs.Lit.{lit, some_over, leaves};
-ghost use Rattle.counts.specs.Calls.{paint_counted, painted_of, refused_by, TellsPainted};
-ghost use Rattle.counts.specs.Calls.{apply_counted, clear_counted, settled_of};
-ghost use Rattle.counts.specs.Band.{band_of, mask_of, lit_in_word, lit_in_words, applied_word, four_of, four_at, Inside};
-ghost use Rattle.counts.specs.Band.{Read, rows_reached, lit_in, left_reached, Sure, copied_to, settled_by};
+ghost use Rattle.counts.specs.Calls.{paint_counted, painted_of, painted_by, TellsPainted};
+ghost use Rattle.counts.specs.Calls.{apply_counted, clear_counted, settled_of, settled_by};
+ghost use Rattle.counts.specs.Band.{band_of, mask_of, lit_in_word, lit_in_words, applied_word, four_of, four_at, AreWords, Inside, lit_by};
+ghost use Rattle.counts.specs.Band.{Read, Accepted, call_in, rows_of, as_painted, left_by, lit_in, Sure, copied_to};
+ghost use Rattle.counts.specs.Band.{settled_number, settled_counts};
 
-use fonts::{Reading, View};
-use paint::{Label, Reply, Shape, Strip};
-use words::Effect;
+use fonts::View;
+use paint::{Finish, Label, Reply, Shape, Strip};
+use words::{Effect, Refusal};
 
-// What painting answers: its reply and the counts.
+// What painting answers: its reply, and the new counts or those given.
 #[derive(Clone, Copy)]
 pub struct Painted {
     pub reply: Reply,
     pub counts: [u32; 32],
 }
 
-// What applying and clearing answer: the number and the counts.
+// What applying and clearing answer: done or refused, and the new counts or those given.
 #[derive(Clone, Copy)]
 pub struct Settled {
-    pub number: u32,
+    pub reply: Result<(), Refusal>,
     pub counts: [u32; 32],
+}
+
+impl Painted {
+    // A refusal hands back the counts given.
+    fn of(answer: Result<(Finish, [u32; 32]), Refusal>, given: [u32; 32]) -> Painted
+        ensures { result ≡ painted_by answer given }
+    {
+        match answer {
+            Ok(done) => {
+                let (finish, counts) = done;
+                Painted {
+                    reply: Ok(finish),
+                    counts,
+                }
+            }
+            Err(refusal) => Painted {
+                reply: Err(refusal),
+                counts: given,
+            },
+        }
+    }
+}
+
+impl Settled {
+    fn of(answer: Result<[u32; 32], Refusal>, given: [u32; 32]) -> Settled
+        ensures { result ≡ settled_by answer given }
+    {
+        match answer {
+            Ok(counts) => Settled {
+                reply: Ok(()),
+                counts,
+            },
+            Err(refusal) => Settled {
+                reply: Err(refusal),
+                counts: given,
+            },
+        }
+    }
 }
 
 // The words that hold the columns of a strip, in some rows of a panel.
@@ -53,9 +91,20 @@ pub struct Rows {
     pub count: usize,
 }
 
-// The count of a label's strip, and how many dots of it are lit in the rows that the label may reach.
+// One label call on panels of one shape, with the font that has been read for it.
+#[derive(Clone, Copy)]
+struct LabelCall<'a> {
+    font: &'a [u16],
+    view: View,
+    shape: Shape,
+    label: Label,
+    text: &'a [u8],
+}
+
+// The rows that a label may reach, the count of its strip, and how many dots of the strip are lit in these rows.
 #[derive(Clone, Copy)]
 pub struct Tally {
+    pub rows: Rows,
     pub held: u32,
     pub lit: u32,
 }
@@ -71,7 +120,7 @@ fn most_lit(s: Shape) -> u64
 fn is_over(most: u64, count: u32) -> bool
     ensures { result ≡ ltb most count }
 {
-    (words::least(4294967295, most as usize) as u32) < count
+    (most.min(4294967295) as u32) < count
 }
 
 // Some count is over that.
@@ -79,14 +128,7 @@ fn some_over(s: Shape, counts: [u32; 32]) -> bool
     ensures { result ≡ some_over s counts }
 {
     let most = most_lit(s);
-    let mut k = 0;
-    while k < 32 {
-        if is_over(most, counts[k]) {
-            return true;
-        }
-        k += 1;
-    }
-    false
+    counts.iter().any(|count| is_over(most, *count))
 }
 
 // A count would leave what it may be, by so many lit dots more and so many fewer.
@@ -108,25 +150,6 @@ fn moved(held: u32, more: u32, fewer: u32) -> u32
     (held as u64 + more as u64 - fewer as u64) as u32
 }
 
-impl Rows {
-    // Those that the pictures of a label may reach.
-    fn reached(font: &[u16], v: View, s: Shape, l: Label) -> Rows
-        ensures { result ≡ rows_reached v font.now s l }
-    {
-        let rows = s.rows as usize;
-        let y = words::place_of(l.y);
-        let e = fonts::rows_in_all(font, v);
-        let above = 2048 + e.above as usize;
-        let below = y + e.above as usize + e.below as usize;
-        let first = words::least(rows, words::past(y, above));
-        let end = words::least(rows, words::past(below, above));
-        Rows {
-            first,
-            count: words::past(end, first),
-        }
-    }
-}
-
 // Four words as one number. The first of them is its last: so they lie in memory, and the compiler makes one load of them.
 fn four(a: u16, b: u16, c: u16, d: u16) -> u64
     ensures { result ≡ four_of a b c d }
@@ -134,19 +157,64 @@ fn four(a: u16, b: u16, c: u16, d: u16) -> u64
     ((d as u64 * 65536 + c as u64) * 65536 + b as u64) * 65536 + a as u64
 }
 
-fn four_words(panel: &[u16], i: usize) -> u64
-    requires { (i ≤ 131071) × (i + 3 < length panel.now) }
-    ensures { result ≡ four_at (word panel.now) i }
-{
-    four(panel[i], panel[i + 1], panel[i + 2], panel[i + 3])
+// Words whose dots are counted: those of a panel as they are, or as a sheet, applied, would leave them.
+trait Dots: Copy {
+    ghost words: { Self → ℕ → ℕ };
+
+    // How many there are.
+    ghost room: { Self → ℕ };
+
+    fn word_at(self, i: usize) -> u16
+        requires { (i ≤ 131071) × (i < room self) }
+        ensures { result ≡ words self i };
 }
 
-// Word i of a panel, as a sheet, applied, would leave it.
-fn left_word(keep: &[u16], flip: &[u16], panel: &[u16], i: usize) -> u16
-    requires { (i ≤ 131071) × (i < length keep.now) × (i < length flip.now) × (i < length panel.now) }
-    ensures { result ≡ applied_word (sheet_of keep.now flip.now) panel.now i }
+impl<'a> Dots for &'a [u16] {
+    ghost words = { λ panel. word panel.now };
+
+    ghost room = { λ panel. length panel.now };
+
+    fn word_at(self, i: usize) -> u16 {
+        self[i]
+    }
+}
+
+// A panel and a sheet that is to be applied to it.
+#[derive(Clone, Copy)]
+struct Applied<'a> {
+    keep: &'a [u16],
+    flip: &'a [u16],
+    panel: &'a [u16],
+}
+
+impl<'a> Dots for Applied<'a> {
+    ghost words = { λ a. applied_word (sheet_of a.keep.now a.flip.now) a.panel.now };
+
+    ghost room = { λ a. min (min (length a.keep.now) (length a.flip.now)) (length a.panel.now) };
+
+    fn word_at(self, i: usize) -> u16 {
+        Effect::new(self.keep[i], self.flip[i]).apply(self.panel[i])
+    }
+}
+
+fn four_words<D: Dots>(dots: D, i: usize) -> u64
+    requires { (i ≤ 131068) × (i + 3 < D.room dots) }
+    ensures value { result ≡ four_at (D.words dots) i }
+    ensures near { AreWords (D.words dots) i }
 {
-    Effect::new(keep[i], flip[i]).apply(panel[i])
+    four(
+        dots.word_at(i),
+        dots.word_at(i + 1),
+        dots.word_at(i + 2),
+        dots.word_at(i + 3),
+    )
+}
+
+// The columns of a mask in the word at one place; all columns in any other word.
+fn only_at(place: usize, mask: u16, w: usize) -> u16
+    ensures { result ≡ cond (eqb w place) mask 0xFFFF }
+{
+    if w == place { mask } else { 0xFFFF }
 }
 
 impl Band {
@@ -169,30 +237,11 @@ impl Band {
         }
     }
 
-    // The columns of word w of a row that are not before the strip, and those that are not behind it.
-    fn head_at(self, w: usize) -> u16
-        ensures { result ≡ cond (eqb w 0) self.head 0xFFFF }
-    {
-        if w == 0 {
-            return self.head;
-        }
-        0xFFFF
-    }
-
-    fn tail_at(self, w: usize) -> u16
-        ensures { result ≡ cond (eqb w self.last) self.tail 0xFFFF }
-    {
-        if w == self.last {
-            return self.tail;
-        }
-        0xFFFF
-    }
-
-    // The columns of the strip in word w of a row.
+    // The columns of the strip in word w of a row: those that are not before it, and not behind it.
     fn mask(self, w: usize) -> u16
         ensures { result ≡ mask_of self w }
     {
-        self.head_at(w) & self.tail_at(w)
+        only_at(0, self.head, w) & only_at(self.last, self.tail, w)
     }
 
     // So in the four words from word w on.
@@ -209,91 +258,47 @@ impl Band {
     }
 
     // The lit dots in word w of each row.
-    fn lit_in_one(self, panel: &[u16], w: usize) -> u32
-        requires { Inside self (length panel.now) × (w ≤ self.last) }
-        ensures value { result ≡ lit_in_word self (word panel.now) w self.rows }
+    fn lit_in_one<D: Dots>(self, dots: D, w: usize) -> u32
+        requires { Inside self (D.room dots) × (w ≤ self.last) }
+        ensures value { result ≡ lit_in_word self (D.words dots) w self.rows }
         ensures near { result ≤ 4096 }
     {
         let mask = self.mask(w);
         let mut sum = 0;
-        let mut at = self.at + w;
-        let mut row = 0;
-        while row < self.rows {
-            sum += u16::count_ones(panel[at] & mask);
-            at += self.rowwords;
-            row += 1;
+        for row in 0..self.rows {
+            sum += u16::count_ones(dots.word_at(self.at + w + row * self.rowwords) & mask);
         }
         sum
     }
 
     // The lit dots in the four words of each row from word w on.
-    fn lit_in_four(self, panel: &[u16], w: usize) -> u32
-        requires { Inside self (length panel.now) × (w + 3 ≤ self.last) }
-        ensures w_value { result + lit_in_words self (word panel.now) w ≡ lit_in_words self (word panel.now) (w + 4) }
+    fn lit_in_four<D: Dots>(self, dots: D, w: usize) -> u32
+        requires { Inside self (D.room dots) × (w + 3 ≤ self.last) }
+        ensures w_value { result + lit_in_words self (D.words dots) w ≡ lit_in_words self (D.words dots) (w + 4) }
         ensures near { result ≤ 16384 }
     {
         let mask = self.masks(w);
         let mut sum = 0;
-        let mut at = self.at + w;
-        let mut row = 0;
-        while row < self.rows {
-            sum += u64::count_ones(four_words(panel, at) & mask);
-            at += self.rowwords;
-            row += 1;
+        for row in 0..self.rows {
+            sum += u64::count_ones(four_words(dots, self.at + w + row * self.rowwords) & mask);
         }
         sum
     }
 
     // All its lit dots. A strip has at most five words in a row: four are counted at once, where there are so many.
-    fn lit(self, panel: &[u16]) -> u32
-        requires { Inside self (length panel.now) }
-        ensures value { result ≡ lit_in_words self (word panel.now) (self.last + 1) }
+    fn lit<D: Dots>(self, dots: D) -> u32
+        requires { Inside self (D.room dots) }
+        ensures value { result ≡ lit_in_words self (D.words dots) (self.last + 1) }
         ensures near { result ≤ 1048576 }
     {
         let mut sum = 0;
-        let mut w = 0;
+        let mut first = 0;
         if 3 <= self.last {
-            sum = self.lit_in_four(panel, 0);
-            w = 4;
+            sum = self.lit_in_four(dots, 0);
+            first = 4;
         }
-        while w <= self.last {
-            sum += self.lit_in_one(panel, w);
-            w += 1;
-        }
-        sum
-    }
-
-    // The dots that a sheet, applied, would leave lit in word w of each row.
-    fn left_in_one(self, keep: &[u16], flip: &[u16], panel: &[u16], w: usize) -> u32
-        requires inside { Inside self (length panel.now) × (w ≤ self.last) }
-        requires inside_2 { Inside self (length keep.now) × Inside self (length flip.now) }
-        ensures value { result ≡ lit_in_word self (applied_word (sheet_of keep.now flip.now) panel.now) w self.rows }
-        ensures near { result ≤ 4096 }
-    {
-        let mask = self.mask(w);
-        let mut sum = 0;
-        let mut at = self.at + w;
-        let mut row = 0;
-        while row < self.rows {
-            sum += u16::count_ones(left_word(keep, flip, panel, at) & mask);
-            at += self.rowwords;
-            row += 1;
-        }
-        sum
-    }
-
-    // In all its words.
-    fn left(self, keep: &[u16], flip: &[u16], panel: &[u16]) -> u32
-        requires inside { Inside self (length panel.now) }
-        requires inside_2 { Inside self (length keep.now) × Inside self (length flip.now) }
-        ensures value { result ≡ lit_in_words self (applied_word (sheet_of keep.now flip.now) panel.now) (self.last + 1) }
-        ensures near { result ≤ 1048576 }
-    {
-        let mut sum = 0;
-        let mut w = 0;
-        while w <= self.last {
-            sum += self.left_in_one(keep, flip, panel, w);
-            w += 1;
+        for w in first..self.last + 1 {
+            sum += self.lit_in_one(dots, w);
         }
         sum
     }
@@ -304,32 +309,9 @@ fn copy_row(panel: &[u16], from: Band, to: Band, space: &mut [u16; 128])
     requires { (from.at + from.last < length panel.now) × (to.at + from.last ≤ 127) × (from.at ≤ 65535) }
     ensures { space.new ≡ copied_to panel.now from.at to.at (from.last + 1) space.old }
 {
-    let mut i = 0;
-    while i <= from.last {
+    for i in 0..from.last + 1 {
         space[to.at + i] = panel[from.at + i];
-        i += 1;
     }
-}
-
-// The dots that an accepted label would leave lit in its strip, in one row: it is painted on a copy of the strip's words.
-fn left_in_row(
-    font: &[u16],
-    v: View,
-    s: Shape,
-    l: Label,
-    text: &[u8],
-    panel: &[u16],
-    row: usize,
-) -> u32
-    requires { (number_with s (length panel.now ∷ []) l (length text.now) ≡ 0) × (row < s.rows) }
-    ensures value { result ≡ lit_in s l.strip row 1 (paint_with (face_from v font.now) s l text.now panel.now) }
-    ensures near { result ≤ 1048576 }
-{
-    let alone = Band::of(s, l.strip, 0, 1);
-    let mut space = [0u16; 128];
-    copy_row(panel, Band::of(s, l.strip, row, 1), alone, &mut space);
-    paint::paint_row(font, v, s, l, text, row, &mut space);
-    alone.lit(&space)
 }
 
 // The lit dots of strip k in some rows.
@@ -341,43 +323,16 @@ fn lit_in(rows: Rows, s: Shape, k: u32, panel: &[u16]) -> u32
     Band::of(s, k, rows.first, rows.count).lit(panel)
 }
 
-// In the rows that its pictures may reach.
-fn left_by_label(font: &[u16], v: View, s: Shape, l: Label, text: &[u8], panel: &[u16]) -> u32
-    requires { number_with s (length panel.now ∷ []) l (length text.now) ≡ 0 }
-    ensures { result ≡ left_reached v font.now s l text.now panel.now }
-{
-    let rows = Rows::reached(font, v, s, l);
-    let mut sum = 0;
-    let mut i = 0;
-    while i < rows.count {
-        sum += left_in_row(font, v, s, l, text, panel, rows.first + i);
-        i += 1;
-    }
-    sum
-}
-
 // Whatever a label does in these rows, the count stays what it may be. That is so of a true count.
-fn sure(s: Shape, rows: Rows, t: Tally) -> bool
-    requires { rows.count ≤ 256 }
-    ensures { result ≡ true → Sure s rows t }
+fn sure(s: Shape, t: Tally) -> bool
+    requires { t.rows.count ≤ 256 }
+    ensures { result ≡ true → Sure s t }
 {
     if t.held < t.lit {
         return false;
     }
-    let room = s.width as u64 * rows.count as u64;
+    let room = s.width as u64 * t.rows.count as u64;
     t.held as u64 + room <= most_lit(s) + t.lit as u64
-}
-
-// An accepted label is refused by 30 for its own strip's count. Only where that is not sure what the label would leave is found out.
-fn refuses(font: &[u16], v: View, s: Shape, l: Label, text: &[u8], panel: &[u16], t: Tally) -> bool
-    requires { number_with s (length panel.now ∷ []) l (length text.now) ≡ 0 }
-    ensures { result ≡ leaves (s.width * s.rows) t.held (left_reached v font.now s l text.now panel.now) t.lit }
-{
-    if sure(s, Rows::reached(font, v, s, l), t) {
-        return false;
-    }
-    let left = left_by_label(font, v, s, l, text, panel);
-    leaves(most_lit(s), t.held, left, t.lit)
 }
 
 // The count of a strip.
@@ -398,68 +353,130 @@ fn with_count(counts: [u32; 32], k: u32, count: u32) -> [u32; 32]
     new
 }
 
-fn refused(number: u32, counts: [u32; 32]) -> Painted
-    ensures { result ≡ refused_by number counts }
-{
-    Painted {
-        reply: Reply::Refused(number),
-        counts,
+impl<'a> LabelCall<'a> {
+    // The rows that its pictures may reach.
+    fn rows(&self) -> Rows
+        ensures { result ≡ rows_of self.now }
+    {
+        let rows = self.shape.rows as usize;
+        let y = words::place_of(self.label.y);
+        let e = fonts::rows_in_all(self.font, self.view);
+        let above = 2048 + e.above as usize;
+        let below = y + e.above as usize + e.below as usize;
+        let first = rows.min(y.saturating_sub(above));
+        let end = rows.min(below.saturating_sub(above));
+        Rows {
+            first,
+            count: end.saturating_sub(first),
+        }
+    }
+
+    // The dots that the label, accepted, would leave lit in its strip, in one row: it is painted on a copy of the strip's words.
+    fn left_in_row(&self, panel: &[u16], row: usize) -> u32
+        requires { Accepted self.now panel.now × (row < self.now.shape.rows) }
+        ensures value { result ≡ lit_in self.now.shape self.now.label.strip row 1 (as_painted self.now panel.now) }
+        ensures near { result ≤ 1048576 }
+    {
+        let s = self.shape;
+        let k = self.label.strip;
+        let alone = Band::of(s, k, 0, 1);
+        let mut space = [0u16; 128];
+        copy_row(panel, Band::of(s, k, row, 1), alone, &mut space);
+        paint::paint_row(
+            self.font, self.view, s, self.label, self.text, row, &mut space,
+        );
+        alone.lit(&space[..])
+    }
+
+    // In the rows that its pictures may reach.
+    fn left(&self, rows: Rows, panel: &[u16]) -> u32
+        requires { Accepted self.now panel.now × (rows ≡ rows_of self.now) }
+        ensures { result ≡ left_by self.now panel.now }
+    {
+        let mut sum = 0;
+        for i in 0..rows.count {
+            sum += self.left_in_row(panel, rows.first + i);
+        }
+        sum
+    }
+
+    // The label, accepted, is refused by 30 for its own strip's count. Only where that is not sure what it would leave is found out.
+    fn refuses(&self, panel: &[u16], t: Tally) -> bool
+        requires { Accepted self.now panel.now × (t.rows ≡ rows_of self.now) }
+        ensures { result ≡ leaves (self.now.shape.width * self.now.shape.rows) t.held (left_by self.now panel.now) t.lit }
+    {
+        if sure(self.shape, t) {
+            return false;
+        }
+        let left = self.left(t.rows, panel);
+        leaves(most_lit(self.shape), t.held, left, t.lit)
+    }
+
+    // Paints the label where nothing but 30 can refuse it, with no count over what it may be, and answers the new counts too.
+    fn paint_accepted(
+        &self,
+        panel: &mut [u16],
+        counts: [u32; 32],
+    ) -> Result<(Finish, [u32; 32]), Refusal>
+        requires read { Read self.now.view self.now.font.now }
+        requires text_value { Accepted self.now panel.old × (some_over self.now.shape counts ≡ false) }
+        ensures value { painted_by result counts ≡ painted_of self.now.shape (call_in self.now) panel.old counts }
+        ensures number { returned result ≡ (paint_counted self.now.shape (call_in self.now) panel.old counts).number }
+        ensures panel { panel.new ≡ (paint_counted self.now.shape (call_in self.now) panel.old counts).panel }
+    {
+        let s = self.shape;
+        let k = self.label.strip;
+        let rows = self.rows();
+        let t = Tally {
+            rows,
+            held: count_of(counts, k),
+            lit: lit_in(rows, s, k, panel),
+        };
+        if self.refuses(panel, t) {
+            return Err(Refusal::LitDots);
+        }
+        let finish = paint::paint_label(self.font, self.view, s, self.label, self.text, panel)?;
+        let left = lit_in(rows, s, k, panel);
+        Ok((finish, with_count(counts, k, moved(t.held, left, t.lit))))
+    }
+
+    // Paints the label.
+    fn paint(&self, panel: &mut [u16], counts: [u32; 32]) -> Result<(Finish, [u32; 32]), Refusal>
+        requires { Read self.now.view self.now.font.now }
+        ensures value { painted_by result counts ≡ painted_of self.now.shape (call_in self.now) panel.old counts }
+        ensures number { returned result ≡ (paint_counted self.now.shape (call_in self.now) panel.old counts).number }
+        ensures panel { panel.new ≡ (paint_counted self.now.shape (call_in self.now) panel.old counts).panel }
+    {
+        paint::check_with(self.shape, panel.len(), self.label, self.text.len())?;
+        if some_over(self.shape, counts) {
+            return Err(Refusal::LitDots);
+        }
+        self.paint_accepted(panel, counts)
     }
 }
 
-// Paints a label that no number but 30 can refuse, with no count over what it may be.
-fn paint_accepted(
+// Reads the font, and paints a label with it.
+fn paint_counted(
     font: &[u16],
-    v: View,
     s: Shape,
     l: Label,
     text: &[u8],
     panel: &mut [u16],
     counts: [u32; 32],
-) -> Painted
-    requires read { Read v font.now }
-    requires text_value { (number_with s (length panel.old ∷ []) l (length text.now) ≡ 0) × (some_over s counts ≡ false) }
-    ensures value { result ≡ painted_of s (call_of font.now l text.now) panel.old counts }
+) -> Result<(Finish, [u32; 32]), Refusal>
+    ensures value { painted_by result counts ≡ painted_of s (call_of font.now l text.now) panel.old counts }
+    ensures number { returned result ≡ (paint_counted s (call_of font.now l text.now) panel.old counts).number }
     ensures panel { panel.new ≡ (paint_counted s (call_of font.now l text.now) panel.old counts).panel }
 {
-    let rows = Rows::reached(font, v, s, l);
-    let t = Tally {
-        held: count_of(counts, l.strip),
-        lit: lit_in(rows, s, l.strip, panel),
+    let view = fonts::read(font)?;
+    let call = LabelCall {
+        font,
+        view,
+        shape: s,
+        label: l,
+        text,
     };
-    if refuses(font, v, s, l, text, panel, t) {
-        return refused(30, counts);
-    }
-    let reply = paint::paint_label(font, v, s, l, text, panel);
-    let left = lit_in(rows, s, l.strip, panel);
-    Painted {
-        reply,
-        counts: with_count(counts, l.strip, moved(t.held, left, t.lit)),
-    }
-}
-
-// Paints a label with a font that has been read.
-fn paint_label(
-    font: &[u16],
-    v: View,
-    s: Shape,
-    l: Label,
-    text: &[u8],
-    panel: &mut [u16],
-    counts: [u32; 32],
-) -> Painted
-    requires { Read v font.now }
-    ensures value { result ≡ painted_of s (call_of font.now l text.now) panel.old counts }
-    ensures panel { panel.new ≡ (paint_counted s (call_of font.now l text.now) panel.old counts).panel }
-{
-    let refusal = paint::number_with(s, panel.len(), l, text.len());
-    if refusal != 0 {
-        return refused(refusal, counts);
-    }
-    if some_over(s, counts) {
-        return refused(30, counts);
-    }
-    paint_accepted(font, v, s, l, text, panel, counts)
+    call.paint(panel, counts)
 }
 
 // Paints a label into one of the thirty-two strips of a panel, and hands back the new counts.
@@ -475,98 +492,104 @@ pub fn paint(
     ensures panel { panel.new ≡ (paint_counted s (call_of font.now l text.now) panel.old counts).panel }
     ensures numbers { TellsPainted result.reply s (call_of font.now l text.now) panel.old counts }
 {
-    match fonts::read(font) {
-        Reading::Refused(number) => refused(number, counts),
-        Reading::Accepted(v) => paint_label(font, v, s, l, text, panel, counts),
-    }
+    Painted::of(paint_counted(font, s, l, text, panel, counts), counts)
 }
 
 // The lit dots of every strip.
-fn lit_of(s: Shape, panel: &[u16]) -> [u32; 32]
-    requires { bad_panel s (length panel.now ∷ []) ≡ false }
-    ensures { result ≡ table 32 (λ k. lit s k panel.now) }
+#[tactic(auto, using(words::proofs::Over::over_turn), unfolding(words::specs::Word::over))]
+fn lit_of<D: Dots>(s: Shape, dots: D) -> [u32; 32]
+    requires { bad_panel s (D.room dots ∷ []) ≡ false }
+    ensures { result ≡ table 32 (λ k. lit_by s k (D.words dots)) }
 {
     let mut lit = [0u32; 32];
-    let mut k = 0;
-    while k < 32 {
-        lit[k] = Band::of(s, k as u32, 0, s.rows as usize).lit(panel);
-        k += 1;
+    for k in 0..32 {
+        lit[k] = Band::of(s, k as u32, 0, s.rows as usize).lit(dots);
     }
     lit
 }
 
-// Those that a sheet, applied, would leave lit.
-fn left_by_sheet(s: Shape, keep: &[u16], flip: &[u16], panel: &[u16]) -> [u32; 32]
-    requires { apply_number s (sheet_of keep.now flip.now) panel.now ≡ 0 }
-    ensures { result ≡ table 32 (λ k. lit s k (apply_after s (sheet_of keep.now flip.now) panel.now)) }
-{
-    let mut left = [0u32; 32];
-    let mut k = 0;
-    while k < 32 {
-        left[k] = Band::of(s, k as u32, 0, s.rows as usize).left(keep, flip, panel);
-        k += 1;
-    }
-    left
-}
-
-// The new counts, by the dots that a call leaves lit and those that were lit; or 30, and the counts given.
-fn settle(s: Shape, counts: [u32; 32], left: [u32; 32], lit: [u32; 32]) -> Settled
+// The new counts, by the dots that a call leaves lit and those that were lit.
+fn settle(
+    s: Shape,
+    counts: [u32; 32],
+    left: [u32; 32],
+    lit: [u32; 32],
+) -> Result<[u32; 32], Refusal>
     requires { s.width * s.rows ≤ 4294967295 }
-    ensures { result ≡ settled_by s counts (word left) (word lit) }
+    ensures value { result ≡ answered (settled_number s counts (word left) (word lit)) (settled_counts counts (word left) (word lit)) }
+    ensures number { returned result ≡ settled_number s counts (word left) (word lit) }
 {
     if some_over(s, counts) {
-        return Settled { number: 30, counts };
+        return Err(Refusal::LitDots);
     }
     let most = most_lit(s);
     let mut new = counts;
-    let mut k = 0;
-    while k < 32 {
+    for k in 0..32 {
         let held = counts[k];
         let more = left[k];
         let fewer = lit[k];
         if leaves(most, held, more, fewer) {
-            return Settled { number: 30, counts };
+            return Err(Refusal::LitDots);
         }
         new[k] = moved(held, more, fewer);
-        k += 1;
     }
-    Settled {
-        number: 0,
-        counts: new,
-    }
+    Ok(new)
+}
+
+// Applies a sheet to a panel, and answers the new counts.
+fn apply_counted(
+    s: Shape,
+    keep: &[u16],
+    flip: &[u16],
+    panel: &mut [u16],
+    counts: [u32; 32],
+) -> Result<[u32; 32], Refusal>
+    ensures value { settled_by result counts ≡ settled_of (apply_counted s (sheet_of keep.now flip.now) panel.old counts) }
+    ensures number { returned result ≡ (apply_counted s (sheet_of keep.now flip.now) panel.old counts).number }
+    ensures panel { panel.new ≡ (apply_counted s (sheet_of keep.now flip.now) panel.old counts).panel }
+{
+    let room = keep.len().min(flip.len()).min(panel.len());
+    paint::check_panel(s, room)?;
+    let lit = lit_of(s, &*panel);
+    let sheet = Applied {
+        keep,
+        flip,
+        panel: &*panel,
+    };
+    let left = lit_of(s, sheet);
+    let new = settle(s, counts, left, lit)?;
+    sheets::apply(s, keep, flip, panel)?;
+    Ok(new)
 }
 
 // Applies a sheet to a panel, and hands back the new counts.
 pub fn apply(s: Shape, keep: &[u16], flip: &[u16], panel: &mut [u16], counts: [u32; 32]) -> Settled
     ensures value { result ≡ settled_of (apply_counted s (sheet_of keep.now flip.now) panel.old counts) }
     ensures panel { panel.new ≡ (apply_counted s (sheet_of keep.now flip.now) panel.old counts).panel }
+    ensures number { returned result.reply ≡ (apply_counted s (sheet_of keep.now flip.now) panel.old counts).number }
 {
-    let sheet = words::least(keep.len(), flip.len());
-    if paint::bad_panel(s, words::least(sheet, panel.len())) {
-        return Settled { number: 8, counts };
-    }
-    let lit = lit_of(s, panel);
-    let left = left_by_sheet(s, keep, flip, panel);
-    let settled = settle(s, counts, left, lit);
-    if settled.number == 0 {
-        sheets::apply(s, keep, flip, panel);
-    }
-    settled
+    Settled::of(apply_counted(s, keep, flip, panel, counts), counts)
+}
+
+// Clears a panel, and answers the new counts.
+fn clear_counted(s: Shape, panel: &mut [u16], counts: [u32; 32]) -> Result<[u32; 32], Refusal>
+    ensures value { settled_by result counts ≡ settled_of (clear_counted s panel.old counts) }
+    ensures number { returned result ≡ (clear_counted s panel.old counts).number }
+    ensures panel { panel.new ≡ (clear_counted s panel.old counts).panel }
+{
+    paint::check_panel(s, panel.len())?;
+    let lit = lit_of(s, &*panel);
+    let left = [0u32; 32];
+    let new = settle(s, counts, left, lit)?;
+    sheets::clear(s, panel)?;
+    Ok(new)
 }
 
 // Clears a panel, and hands back the new counts.
 pub fn clear(s: Shape, panel: &mut [u16], counts: [u32; 32]) -> Settled
     ensures value { result ≡ settled_of (clear_counted s panel.old counts) }
     ensures panel { panel.new ≡ (clear_counted s panel.old counts).panel }
+    ensures number { returned result.reply ≡ (clear_counted s panel.old counts).number }
 {
-    if paint::bad_panel(s, panel.len()) {
-        return Settled { number: 8, counts };
-    }
-    let lit = lit_of(s, panel);
-    let left = [0u32; 32];
-    let settled = settle(s, counts, left, lit);
-    if settled.number == 0 {
-        sheets::clear(s, panel);
-    }
-    settled
+    Settled::of(clear_counted(s, panel, counts), counts)
 }

@@ -1,28 +1,26 @@
 -- The program's answer: its refusals, and the bytes of the file that it prints.
-use Prim.Native.Nat.{ℕ, ◌+◌, ◌*◌, ◌/◌, ◌≤◌, min}
+use Prim.Native.Nat.{ℕ, ◌*◌, ◌/◌, ◌≤◌, min}
 use mathlib.Core.Path.{◌≡◌, refl, sym, ap, ap₂, ◌∙◌}
-use mathlib.Core.Bool.{Bool, true, false, cond, true≢false}
 use mathlib.Core.List.{List, [], ◌++◌}
 use native.Mathlib.Omega.{arith}
-use lib.Dec.{ltb, eqb}
+use lib.Dec.{ltb}
 use lib.ListN.{length, take, drop}
 use lib.Seq.{take_at}
-use borrow.Author.Tests.{ltb-false, eqb-true, eqb-false, eq-eqb, ne_eqb}
+use borrow.Author.Tests.{ltb-false, eq-eqb, ne_eqb}
+use Rattle.std.specs.Prelude.{Ok, Err}
+use Rattle.words.specs.declared.refusal.Refusal.{Refusal}
 use Rattle.words.specs.Word.{word, words_of, bytes_of, over}
-use Rattle.words.specs.Refusal.{first_of}
+use Rattle.words.specs.Refusal.{first_of, number_of}
 use Rattle.words.proofs.Bytes.{words-length, bytes-length}
 use Rattle.words.proofs.Over.{over-length, over-list, over-list-first}
 use Rattle.words.proofs.Chain.{stage-stops, stage-goes-on}
 use Rattle.words.proofs.Passed.{passed, stages-passed}
-use Rattle.convert.specs.declared.Conversion.{Conversion}
-use Rattle.convert.specs.declared.Conversion.TheVariants.{Written, Refused}
+use Rattle.words.proofs.Refusals.{number-not-0, answered-value, answered-refusal}
 use Rattle.convert.specs.Writing.{file_of, file_words, drawing_number}
 use Rattle.convert.specs.Cu.{drawing_of, cu_file_number}
-use Rattle.convert.specs.Conversion.{bytes_number, cu_number, conversion_of, conversion_number, words_written, output_after, program_number}
-use Rattle.convert.specs.Conversion.{program_output}
+use Rattle.convert.specs.Conversion.{bytes_number, cu_number, Tells, output_after, program_number, program_output}
 use Rattle.convert.proofs.File.{file-length}
 use Rattle.convert.proofs.Accepting.{good-drawing}
-use Rattle.cu2ks.specs.declared.Answer.{Answer}
 use Rattle.cu2ks.specs.Program.{answer_of}
 
 -- the words that stand first where bytes have been read into a list with room for them
@@ -40,122 +38,99 @@ module _ (bytes : List ℕ) where
   abbrev ws : List ℕ
   ws = words_of bytes
 
-  answer-is : (n k : ℕ) → n ≡ program_number bytes → k ≡ length (program_output bytes) → record { number = n; bytes = k } ≡ answer_of bytes
-  unfolding answer_of
-  answer-is n k e f = ap₂ (λ (number count : ℕ). record { number = number; bytes = count }) e f
-
   -- ---- refusals
-
-  -- the number of bytes is refused
-  pub bytes-refused : (n : ℕ) → n ≡ bytes_number bytes → (n ≡ 0 → ⊥) → n ≡ program_number bytes
-  unfolding program_number
-  bytes-refused n e h = stage-stops n (bytes_number bytes) (cu_number ws 32768) e h
 
   pub few_bytes : bytes_number bytes ≡ 0 → length bytes ≤ 65536
   unfolding bytes_number first_of
   few_bytes e = ltb-false 65536 (length bytes) (passed (ltb 65536 (length bytes)) 21 _ (omega arith) e).0
 
-  -- it is not, and what the words give is the answer
-  bytes-passed : (n : ℕ) → bytes_number bytes ≡ 0 → n ≡ cu_number ws 32768 → n ≡ program_number bytes
-  unfolding program_number
-  bytes-passed n z e = stage-goes-on n (bytes_number bytes) (bytes_number bytes) (cu_number ws 32768) refl z e
+  -- a refusal, of the number of bytes or of their words, prints nothing
+  module _ (refusal : Refusal) (printed : List ℕ) where
+    refused : number_of refusal ≡ program_number bytes → (Err refusal ≡ answer_of bytes)
+        × (printed ≡ program_output bytes ++ drop (length (program_output bytes)) printed)
+        × (number_of refusal ≡ program_number bytes)
+    unfolding answer_of program_output
+    refused e =
+        let number = number-not-0 refusal in
+        let none : program_output bytes ≡ [] = rw (← e, ne_eqb (number_of refusal) 0 number) in
+        (answered-refusal refusal (program_number bytes) _ e, rw none, e)
 
-  nothing-printed : (n : ℕ) → n ≡ program_number bytes → (n ≡ 0 → ⊥) → program_output bytes ≡ []
-  unfolding program_output
-  nothing-printed n e h = rw (← e, ne_eqb n 0 h)
+    pub bytes-refused : number_of refusal ≡ bytes_number bytes → (Err refusal ≡ answer_of bytes)
+        × (printed ≡ program_output bytes ++ drop (length (program_output bytes)) printed)
+        × (number_of refusal ≡ program_number bytes)
+    unfolding program_number
+    bytes-refused e = refused (stage-stops _ (bytes_number bytes) (cu_number ws 32768) e (number-not-0 refusal))
 
-  pub refusal : (n : ℕ) (printed : List ℕ) → n ≡ program_number bytes → (n ≡ 0 → ⊥)
-      → (record { number = n; bytes = 0 } ≡ answer_of bytes)
-      × (printed ≡ program_output bytes ++ drop (length (program_output bytes)) printed)
-  refusal n printed e h =
-      let none = nothing-printed n e h in
-      (answer-is n 0 e (sym (ap length none)), rw none)
-
-  -- ---- what a conversion's answer tells
-
-  abbrev is_written : Conversion → Bool
-  is_written (Written words) = true
-  is_written (Refused number) = false
-
-  accepted : (w : ℕ) → Written w ≡ conversion_of ws 32768 → (cu_number ws 32768 ≡ 0) × (w ≡ file_words (drawing_of ws))
-  unfolding conversion_of
-  accepted w e = told (eqb (cu_number ws 32768) 0) refl e
-    where
-      told : (t : Bool) → eqb (cu_number ws 32768) 0 ≡ t
-          → Written w ≡ cond t (Written (file_words (drawing_of ws))) (Refused (cu_number ws 32768))
-          → (cu_number ws 32768 ≡ 0) × (w ≡ file_words (drawing_of ws))
-      told true q e = (eqb-true (cu_number ws 32768) 0 q, ap words_written e)
-      told false q e = absurd (true≢false (ap is_written e))
-
-  denied : (n : ℕ) → Refused n ≡ conversion_of ws 32768 → (n ≡ cu_number ws 32768) × (n ≡ 0 → ⊥)
-  unfolding conversion_of
-  denied n e = told (eqb (cu_number ws 32768) 0) refl e
-    where
-      told : (t : Bool) → eqb (cu_number ws 32768) 0 ≡ t
-          → Refused n ≡ cond t (Written (file_words (drawing_of ws))) (Refused (cu_number ws 32768))
-          → (n ≡ cu_number ws 32768) × (n ≡ 0 → ⊥)
-      told true q e = absurd (true≢false (sym (ap is_written e)))
-      told false q e =
-          let same = ap conversion_number e in
-          (same, λ z. eqb-false (cu_number ws 32768) 0 q (sym same ∙ z))
-
-  pub words-refused : (n : ℕ) → bytes_number bytes ≡ 0 → Refused n ≡ conversion_of ws 32768 → (n ≡ program_number bytes) × (n ≡ 0 → ⊥)
-  words-refused n z e = (bytes-passed n z (denied n e).0, (denied n e).1)
+    pub words-refused : bytes_number bytes ≡ 0 → Tells (Err refusal) ws 32768 → (Err refusal ≡ answer_of bytes)
+        × (printed ≡ program_output bytes ++ drop (length (program_output bytes)) printed)
+        × (number_of refusal ≡ program_number bytes)
+    unfolding program_number
+    words-refused z tells = refused (stage-goes-on _ (bytes_number bytes) (bytes_number bytes) (cu_number ws 32768) refl z tells.0)
 
   -- ---- the file
 
-  output-is : program_number bytes ≡ 0 → program_output bytes ≡ bytes_of (file_of (drawing_of ws))
-  unfolding program_output
-  output-is e = rw (eq-eqb (program_number bytes) 0 e)
+  module _ (w : ℕ) (z : bytes_number bytes ≡ 0) (tells : Tells (Ok w) ws 32768) where
+    accepted : cu_number ws 32768 ≡ 0
+    accepted = sym tells.0
 
-  room_for : cu_number ws 32768 ≡ 0 → file_words (drawing_of ws) ≤ 32768
-  unfolding cu_number
-  room_for e = (good-drawing (drawing_of ws) 32768 (stages-passed (cu_file_number ws) (drawing_number (drawing_of ws) 32768) e).1).has_room
+    words-are : w ≡ file_words (drawing_of ws)
+    words-are = let e = accepted in tells.1 ∙ rw (eq-eqb (cu_number ws 32768) 0 e)
 
-  written-first : (out : List ℕ) → length out ≡ 32768 → cu_number ws 32768 ≡ 0
-      → take (file_words (drawing_of ws)) (output_after ws out) ≡ file_of (drawing_of ws)
-  unfolding output_after
-  written-first out long e =
-      rw (long, eq-eqb (cu_number ws 32768) 0 e)
-      (take_at (file_of (drawing_of ws)) (drop (file_words (drawing_of ws)) out) (file_words (drawing_of ws)) (file-length (drawing_of ws)))
-
-  module _ (w n : ℕ) (out after file room printed : List ℕ)
-      (z : bytes_number bytes ≡ 0)
-      (e : Written w ≡ conversion_of ws 32768)
-      (long : length out ≡ 32768)
-      (written : after ≡ output_after ws out)
-      (first : file ≡ take w after)
-      (space : length room ≡ 65536)
-      (count : n ≡ min (2 * length file) (length room))
-      (spelling : printed ≡ over (min (2 * length file) (length room)) (word (bytes_of file)) room) where
-    file-is : file ≡ file_of (drawing_of ws)
-    file-is =
-        first
-        ∙ ap₂ (λ (k : ℕ) (xs : List ℕ). take k xs) (accepted w e).1 written
-        ∙ written-first out long (accepted w e).0
-
-    fits : 2 * length file ≤ 65536
-    fits =
-        let words : length file ≡ file_words (drawing_of ws) = ap length file-is ∙ file-length (drawing_of ws) in
-        let few = room_for (accepted w e).0 in
+    pub has-room : w ≤ 32768
+    unfolding cu_number
+    has-room =
+        let stages = stages-passed (cu_file_number ws) (drawing_number (drawing_of ws) 32768) accepted in
+        let good = good-drawing (drawing_of ws) 32768 stages.1 in
+        let room = good.has_room in
+        let count = words-are in
         omega arith
 
-    all : min (2 * length file) (length room) ≡ 2 * length file
-    all = let few = fits in omega arith
+    pub done : 0 ≡ program_number bytes
+    unfolding program_number
+    done = stage-goes-on 0 (bytes_number bytes) (bytes_number bytes) (cu_number ws 32768) refl z tells.0
 
-    printed-is : bytes_of file ≡ program_output bytes
-    printed-is = ap bytes_of file-is ∙ sym (output-is (sym (bytes-passed 0 z (sym (accepted w e).0))))
+    output-is : program_output bytes ≡ bytes_of (file_of (drawing_of ws))
+    unfolding program_output
+    output-is = rw (eq-eqb (program_number bytes) 0 (sym done))
 
-    pub printing : (record { number = 0; bytes = n } ≡ answer_of bytes)
-        × (printed ≡ program_output bytes ++ drop (length (program_output bytes)) room) × (n ≤ length printed)
-    printing =
-        let few = fits in
-        let same = ap length spelling ∙ over-length (min (2 * length file) (length room)) (word (bytes_of file)) room in
-        let bytes-of : 2 * length file ≡ length (program_output bytes) = sym (bytes-length file) ∙ ap length printed-is in (
-          answer-is 0 n (bytes-passed 0 z (sym (accepted w e).0)) (count ∙ all ∙ bytes-of),
-          spelling
-              ∙ ap (λ (k : ℕ). over k (word (bytes_of file)) room) all
-              ∙ over-list (2 * length file) (bytes_of file) room (bytes-length file) (omega arith)
-              ∙ ap₂ (λ (xs : List ℕ) (k : ℕ). xs ++ drop k room) printed-is bytes-of,
-          omega arith,
-        )
+    module _ (n : ℕ) (out after file room printed : List ℕ)
+        (long : length out ≡ 32768)
+        (written : after ≡ output_after ws out)
+        (first : file ≡ take w after)
+        (space : length room ≡ 65536)
+        (count : n ≡ min (2 * length file) (length room))
+        (spelling : printed ≡ over (min (2 * length file) (length room)) (word (bytes_of file)) room) where
+      file-is : file ≡ file_of (drawing_of ws)
+      unfolding output_after
+      file-is =
+          let words = words-are in
+          let e = accepted in
+          first
+          ∙ ap (take w) written
+          ∙ rw (long, eq-eqb (cu_number ws 32768) 0 e)
+          (take_at (file_of (drawing_of ws)) (drop (file_words (drawing_of ws)) out) w (file-length (drawing_of ws) ∙ sym words))
+
+      all : min (2 * length file) (length room) ≡ 2 * length file
+      all =
+          let words : length file ≡ w = ap length file-is ∙ file-length (drawing_of ws) ∙ sym words-are in
+          let few = has-room in
+          omega arith
+
+      printed-is : bytes_of file ≡ program_output bytes
+      printed-is = ap bytes_of file-is ∙ sym output-is
+
+      pub printing : (Ok n ≡ answer_of bytes)
+          × (printed ≡ program_output bytes ++ drop (length (program_output bytes)) room) × (n ≤ length printed)
+      unfolding answer_of
+      printing =
+          let fits = all in
+          let same = ap length spelling ∙ over-length (min (2 * length file) (length room)) (word (bytes_of file)) room in
+          let bytes-of : 2 * length file ≡ length (program_output bytes) = sym (bytes-length file) ∙ ap length printed-is in
+          let whole = count ∙ all ∙ bytes-of in (
+            ap (λ (k : ℕ). Ok k) whole ∙ answered-value (program_number bytes) (length (program_output bytes)) done,
+            spelling
+                ∙ ap (λ (k : ℕ). over k (word (bytes_of file)) room) all
+                ∙ over-list (2 * length file) (bytes_of file) room (bytes-length file) (omega arith)
+                ∙ ap₂ (λ (xs : List ℕ) (k : ℕ). xs ++ drop k room) printed-is bytes-of,
+            omega arith,
+          )

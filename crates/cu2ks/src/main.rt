@@ -1,16 +1,23 @@
 // Reads a CU file on standard input and writes its KernedStrike file on standard output, and nothing else there.
 #![tactic(auto)]
 
-ghost use Rattle.std.specs.Prelude.{◌≡◌, ◌≤◌, ◌++◌, length, drop};
+ghost use Rattle.std.specs.Prelude.{◌≡◌, ◌≤◌, ◌++◌, length, drop, IfOk, Some};
 ghost use Rattle.reading.specs.Counts.{IsPrefixLen};
 ghost use Rattle.words.specs.Word.{words_of};
-ghost use Rattle.convert.specs.Conversion.{conversion_of, output_after, bytes_number, program_output};
+ghost use Rattle.words.specs.Refusal.{returned};
+ghost use Rattle.convert.specs.Conversion.{conversion_of, output_after, bytes_number, program_number, program_output, Tells};
 ghost use Rattle.cu2ks.specs.Program.{answer_of};
+ghost use Rattle.cu2ks.specs.Failure.{said};
 
-use convert::Conversion;
-use reading::BYTES;
+use reading::{BYTES, ReadFailed};
+use std::fmt;
+use std::io::Read;
+use words::Refusal;
 
-// The words of the most bytes.
+// The most bytes of a CU file.
+const FILE: usize = 65_536;
+
+// The words of these.
 const CU: usize = 32_768;
 
 // The words that the output holds.
@@ -19,31 +26,59 @@ const OUT: usize = 32_768;
 // The bytes of these.
 const PRINTED: usize = 65_536;
 
-// What the program answers: the number of its refusal or 0, and how many bytes it prints.
-#[derive(Clone, Copy)]
-struct Answer {
-    number: u32,
-    bytes: usize,
+// Why there is no file, or a part of one.
+#[derive(Clone, Copy, Debug)]
+enum Failure {
+    Refused(Refusal),
+    Unread(ReadFailed),
+    Unwritten,
+}
+
+impl fmt::Display for Failure {
+    ghost output = { λ failure. Some (said failure) };
+
+    fn fmt<W: fmt::Write>(&self, f: &mut fmt::Formatter<W>) -> fmt::Result {
+        match self {
+            Failure::Refused(refusal) => {
+                let number = refusal.number();
+                write!(f, "refused {number}")
+            }
+            Failure::Unread(failed) => write!(f, "{failed}"),
+            Failure::Unwritten => f.write_str("write failed"),
+        }
+    }
+}
+
+impl From<Refusal> for Failure {
+    fn from(refusal: Refusal) -> Failure {
+        Failure::Refused(refusal)
+    }
+}
+
+impl From<ReadFailed> for Failure {
+    fn from(failed: ReadFailed) -> Failure {
+        Failure::Unread(failed)
+    }
 }
 
 // What the number of bytes is refused for, before a word is made of them.
-fn bytes_number(bytes: &[u8]) -> u32
-    ensures { result ≡ bytes_number bytes.now }
+fn check_bytes(bytes: &[u8]) -> Result<(), Refusal>
+    ensures { returned result ≡ bytes_number bytes.now }
 {
-    let count = bytes.len();
-    if 65_536 < count {
-        return 21;
+    if FILE < bytes.len() {
+        return Err(Refusal::CuCutShort);
     }
-    if count % 2 == 1 {
-        return 14;
+    if words::odd_bytes(bytes) {
+        return Err(Refusal::OddBytes);
     }
-    0
+    Ok(())
 }
 
-fn converted(bytes: &[u8], out: &mut [u16]) -> Conversion
+fn converted(bytes: &[u8], out: &mut [u16]) -> Result<usize, Refusal>
     requires { length bytes.now ≤ 65536 }
     ensures value { result ≡ conversion_of (words_of bytes.now) (length out.old) }
     ensures out { out.new ≡ output_after (words_of bytes.now) out.old }
+    ensures numbers { Tells result (words_of bytes.now) (length out.old) }
 {
     let mut cu = [0u16; CU];
     let n = words::from_bytes(bytes, &mut cu);
@@ -51,59 +86,31 @@ fn converted(bytes: &[u8], out: &mut [u16]) -> Conversion
 }
 
 // The whole program but its reading and writing: what it prints comes to stand first in `printed`, whose rest stays.
-fn program(bytes: &[u8], printed: &mut [u8; PRINTED]) -> Answer
+fn program(bytes: &[u8], printed: &mut [u8; PRINTED]) -> Result<usize, Refusal>
     ensures value { result ≡ answer_of bytes.now }
     ensures printed { printed.new ≡ program_output bytes.now ++ drop (length (program_output bytes.now)) printed.old }
-    ensures room { IsPrefixLen result.bytes printed.new }
+    ensures room { IfOk result (λ count. IsPrefixLen count printed.new) }
+    ensures number { returned result ≡ program_number bytes.now }
 {
-    let number = bytes_number(bytes);
-    if number != 0 {
-        return Answer { number, bytes: 0 };
-    }
+    check_bytes(bytes)?;
     let mut out = [0u16; OUT];
-    let conversion = converted(bytes, &mut out);
-    match conversion {
-        Conversion::Written(words) => {
-            let file = words::part(&out, 0, words);
-            Answer {
-                number: 0,
-                bytes: words::to_bytes(file, printed),
-            }
-        }
-        Conversion::Refused(number) => Answer { number, bytes: 0 },
-    }
+    let words = converted(bytes, &mut out)?;
+    Ok(words::to_bytes(&out[..words], printed))
 }
 
-// Says a line on standard error. Where that cannot be written either, there is nowhere left to say so.
-fn say(rt: &impl Eprint, line: &str) {
-    let _ = rt.eprintln(line);
-}
-
-fn refuse(rt: &impl Eprint, number: u32) {
-    let _ = eprintln!(rt; "refused {number}");
-}
-
-// Answers the bytes that were read.
-fn run(rt: &(impl Print + Eprint), bytes: &[u8]) {
-    let mut printed = [0u8; PRINTED];
-    let answer = program(bytes, &mut printed);
-    if answer.number != 0 {
-        refuse(rt, answer.number);
-        return;
-    }
-    let n = answer.bytes;
-    if rt.write_all(&printed[..n]).is_err() {
-        say(rt, "write failed");
-    }
-}
-
-fn main(rt: HostRuntime) {
+// Reads the input, and writes the file of it.
+fn run(rt: &impl Print, from: &mut impl Read) -> Result<(), Failure> {
     let mut space = [0u8; BYTES];
-    let input = reading::read(&mut rt.stdin(), &mut space);
-    if input.failed {
-        say(&rt, "read failed");
-        return;
+    let n = reading::read(from, &mut space)?;
+    let mut printed = [0u8; PRINTED];
+    let count = program(&space[..n], &mut printed)?;
+    rt.write_all(&printed[..count])
+        .map_err(|_| Failure::Unwritten)
+}
+
+// Where a failure cannot be said on standard error either, there is nowhere left to say so.
+fn main(rt: HostRuntime) {
+    if let Err(failure) = run(&rt, &mut rt.stdin()) {
+        let _ = eprintln!(rt; "{failure}");
     }
-    let n = input.bytes;
-    run(&rt, &space[..n]);
 }

@@ -20,7 +20,7 @@ pub check-one : OneReply 1 check.Kinds.ps check.Kinds.r check.Reads.Post
 check-one κs a r o e e' p q = p ∙ sym q
 
 pub measure-one : OneReply 2 measure.Kinds.ps measure.Kinds.r measure.Reads.Post
-measure-one κs a r o e e' p q = p ∙ sym q
+measure-one κs a r o e e' p q = p.0 ∙ sym q.0
 
 pub words-one : (κs : Lfts 2) (a : Dens κs words.Kinds.ps) (r o : (res_t words.Kinds.r κs).Denot)
     (e e' : AtExit (ended_of 2 words.Kinds.ps words.Kinds.r) κs)
@@ -32,7 +32,7 @@ pub paint-one : (κs : Lfts 3) (a : Dens κs paint.Kinds.ps) (r o : (res_t paint
     (e e' : AtExit (ended_of 3 paint.Kinds.ps paint.Kinds.r) κs)
     → paint.Reads.Post κs a r e → paint.Reads.Post κs a o e'
     → (r ≡ o) × (e.1.1.1.0.now ≡ e'.1.1.1.0.now)
-paint-one κs a r o e e' p q = (p.0 ∙ sym q.0, p.1 ∙ sym q.1)
+paint-one κs a r o e e' p q = (p.0 ∙ sym q.0, p.1.0 ∙ sym q.1.0)
 
 pub fresh-one : (κs : Lfts 2) (a : Dens κs fresh.Kinds.ps) (r o : (res_t fresh.Kinds.r κs).Denot)
     (e e' : AtExit (ended_of 2 fresh.Kinds.ps fresh.Kinds.r) κs)
@@ -44,7 +44,7 @@ pub gather-one : (κs : Lfts 4) (a : Dens κs gather.Kinds.ps) (r o : (res_t gat
     (e e' : AtExit (ended_of 4 gather.Kinds.ps gather.Kinds.r) κs)
     → gather.Reads.Post κs a r e → gather.Reads.Post κs a o e'
     → (r ≡ o) × (e.1.1.1.0.now ≡ e'.1.1.1.0.now) × (e.1.1.1.1.0.now ≡ e'.1.1.1.1.0.now)
-gather-one κs a r o e e' p q = (p.0 ∙ sym q.0, p.1.0 ∙ sym q.1.0, p.1.1 ∙ sym q.1.1)
+gather-one κs a r o e e' p q = (p.0 ∙ sym q.0, p.1.0 ∙ sym q.1.0, p.1.1.0 ∙ sym q.1.1.0)
 
 pub join_one : (κs : Lfts 4) (a : Dens κs join.Kinds.ps) (r o : (res_t join.Kinds.r κs).Denot)
     (e e' : AtExit (ended_of 4 join.Kinds.ps join.Kinds.r) κs)
@@ -68,4 +68,4 @@ pub convert-one : (κs : Lfts 2) (a : Dens κs convert.Kinds.ps) (r o : (res_t c
     (e e' : AtExit (ended_of 2 convert.Kinds.ps convert.Kinds.r) κs)
     → convert.Reads.Post κs a r e → convert.Reads.Post κs a o e'
     → (r ≡ o) × (e.1.0.now ≡ e'.1.0.now)
-convert-one κs a r o e e' p q = (p.0 ∙ sym q.0, p.1 ∙ sym q.1)
+convert-one κs a r o e e' p q = (p.0 ∙ sym q.0, p.1.0 ∙ sym q.1.0)

@@ -2,11 +2,11 @@
 -- `paint: Label.measure_file`.
 use Rattle.std.specs.Prelude.{ℕ, ◌/◌, cond, List, [], ◌∷◌, ltb, eqb, length}
 use Rattle.words.specs.Word.{word, words_of, odd_bytes, over}
-use Rattle.words.specs.Refusal.{first_of}
-use Rattle.convert.specs.declared.Conversion.{Conversion}
+use Rattle.std.specs.declared.result.Result.{Result}
+use Rattle.words.specs.declared.refusal.Refusal.{Refusal}
+use Rattle.words.specs.Refusal.{first_of, returned}
 use Rattle.convert.specs.Conversion.{conversion_number, words_written}
-use Rattle.paint.specs.declared.Reply.{Reply}
-use Rattle.paint.specs.Label.{Call, call_of, reply_number, reply_pen, reply_substitutes}
+use Rattle.paint.specs.Label.{Call, Reply, call_of, reply_number, reply_pen, reply_substitutes}
 use Rattle.paint.specs.Sheet.{Sheet}
 use Rattle.sheets.specs.Sheet.{gather_after}
 use Rattle.counts.specs.declared.Painted.{Painted}
@@ -39,10 +39,14 @@ answer_of reply = record { number = reply_number reply; pen = reply_pen reply; s
 abbrev pub painted_from : Painted → ForC
 painted_from painted = record { answer = answer_of painted.reply; counts = record { lit = painted.counts } }
 
-abbrev pub settled_from : Settled → SettledForC
-settled_from settled = record { number = settled.number; counts = record { lit = settled.counts } }
+abbrev pub settled_from : Counted → SettledForC
+settled_from counted = record { number = counted.number; counts = record { lit = counted.counts } }
 
-abbrev pub written_of : Conversion → Written
+-- so by what the call answers
+abbrev pub settled_with : Settled → SettledForC
+settled_with settled = record { number = returned settled.reply; counts = record { lit = settled.counts } }
+
+abbrev pub written_of : Result ℕ Refusal → Written
 written_of conversion = record { number = conversion_number conversion; words = words_written conversion }
 
 -- Words of bytes: 14, then 27, "output slice too short"; else as many words as the bytes spell, over the first words of the output

@@ -3,17 +3,18 @@
 #![tactic(auto)]
 
 ghost use Rattle.std.specs.Prelude.{◌≡◌, length};
+ghost use Rattle.words.specs.Refusal.{returned};
 ghost use Rattle.fontbytes.specs.File.{file_number};
-ghost use Rattle.convert.specs.Conversion.{conversion_of, output_after};
-ghost use Rattle.paint.specs.Sheet.{sheet_of};
-ghost use Rattle.paint.specs.Label.{measure_file};
+ghost use Rattle.convert.specs.Conversion.{cu_number, conversion_of, output_after};
+ghost use Rattle.paint.specs.Sheet.{sheet_of, lengths_of};
+ghost use Rattle.paint.specs.Label.{number_after, call_number, measure_file};
 ghost use Rattle.sheets.specs.Sheet.{fresh_number, fresh_after, join_number, join_after, gather_reply};
-ghost use Rattle.counts.specs.Calls.{painted_of, apply_counted, clear_counted, settled_of};
-ghost use Rattle.desk.specs.Desk.{call_from, gathered_by, counted_by, answer_of, painted_from, settled_from, written_of};
+ghost use Rattle.counts.specs.Calls.{painted_of, apply_counted, clear_counted};
+ghost use Rattle.desk.specs.Desk.{call_from, gathered_by, counted_by, answer_of, painted_from, settled_from, settled_with, written_of};
 ghost use Rattle.desk.specs.Desk.{words_number, words_answer, words_after};
 
-use convert::Conversion;
 use paint::{Label, Reply, Shape};
+use words::Refusal;
 
 // One label call as C hands it: on which panel, and where.
 #[repr(C)]
@@ -63,29 +64,70 @@ pub struct Written {
     pub words: usize,
 }
 
-fn answer_of(reply: Reply) -> Answer
-    ensures { result ≡ answer_of reply }
+// What a call answers that says no more than whether it is done: 0, or the number of its refusal.
+fn number_of(answer: Result<(), Refusal>) -> u32
+    ensures { result ≡ returned answer }
 {
-    match reply {
-        Reply::Done(finish) => Answer {
-            number: 0,
-            pen: finish.pen,
-            substitutes: finish.substitutes,
-        },
-        Reply::Refused(number) => Answer {
-            number,
-            pen: 0,
-            substitutes: 0,
-        },
+    match answer {
+        Ok(()) => 0,
+        Err(refusal) => refusal.number(),
     }
 }
 
-fn written_of(conversion: Conversion) -> Written
-    ensures { result ≡ written_of conversion }
-{
-    match conversion {
-        Conversion::Written(words) => Written { number: 0, words },
-        Conversion::Refused(number) => Written { number, words: 0 },
+impl From<Reply> for Answer {
+    ghost from_gives = { λ reply answer. answer ≡ answer_of reply };
+
+    fn from(reply: Reply) -> Answer {
+        match reply {
+            Ok(finish) => Answer {
+                number: 0,
+                pen: finish.pen,
+                substitutes: finish.substitutes,
+            },
+            Err(refusal) => Answer {
+                number: refusal.number(),
+                pen: 0,
+                substitutes: 0,
+            },
+        }
+    }
+}
+
+impl From<Result<usize, Refusal>> for Written {
+    ghost from_gives = { λ answer written. written ≡ written_of answer };
+
+    fn from(answer: Result<usize, Refusal>) -> Written {
+        match answer {
+            Ok(words) => Written { number: 0, words },
+            Err(refusal) => Written {
+                number: refusal.number(),
+                words: 0,
+            },
+        }
+    }
+}
+
+impl From<counts::Painted> for Painted {
+    ghost from_gives = { λ painted given. given ≡ painted_from painted };
+
+    fn from(painted: counts::Painted) -> Painted {
+        let lit = painted.counts;
+        Painted {
+            answer: Answer::from(painted.reply),
+            counts: Counts { lit },
+        }
+    }
+}
+
+impl From<counts::Settled> for Settled {
+    ghost from_gives = { λ settled given. given ≡ settled_with settled };
+
+    fn from(settled: counts::Settled) -> Settled {
+        let lit = settled.counts;
+        Settled {
+            number: number_of(settled.reply),
+            counts: Counts { lit },
+        }
     }
 }
 
@@ -100,21 +142,30 @@ pub extern "C" fn pailradish_check(font: &[u8]) -> u32
 // Measures a label with the font in these bytes.
 #[unsafe(no_mangle)]
 pub extern "C" fn pailradish_measure(font: &[u8], x: i32, text: &[u8]) -> Answer
-    ensures { result ≡ answer_of (measure_file font.now x text.now) }
+    ensures value { result ≡ answer_of (measure_file font.now x text.now) }
+    ensures number { result.number ≡ number_after (file_number font.now) x (length text.now) }
 {
-    answer_of(paint::measure_bytes(font, x, text))
+    Answer::from(paint::measure_bytes(font, x, text))
 }
 
-fn words_number(bytes: &[u8], room: usize) -> u32
-    ensures { result ≡ words_number bytes.now room }
+fn check_words(bytes: &[u8], room: usize) -> Result<(), Refusal>
+    ensures { returned result ≡ words_number bytes.now room }
 {
     if words::odd_bytes(bytes) {
-        return 14;
+        return Err(Refusal::OddBytes);
     }
     if room < bytes.len() / 2 {
-        return 27;
+        return Err(Refusal::OutputTooShort);
     }
-    0
+    Ok(())
+}
+
+fn words_of(bytes: &[u8], out: &mut [u16]) -> Result<usize, Refusal>
+    ensures value { written_of result ≡ words_answer bytes.now (length out.old) }
+    ensures out { out.new ≡ words_after bytes.now out.old }
+{
+    check_words(bytes, out.len())?;
+    Ok(words::from_bytes(bytes, out))
 }
 
 // The words that bytes spell, high byte first: the step from a file to what painting takes.
@@ -123,35 +174,7 @@ pub extern "C" fn pailradish_words(bytes: &[u8], out: &mut [u16]) -> Written
     ensures value { result ≡ words_answer bytes.now (length out.old) }
     ensures out { out.new ≡ words_after bytes.now out.old }
 {
-    let number = words_number(bytes, out.len());
-    if number != 0 {
-        return Written { number, words: 0 };
-    }
-    Written {
-        number: 0,
-        words: words::from_bytes(bytes, out),
-    }
-}
-
-fn painted_of(painted: counts::Painted) -> Painted
-    ensures { result ≡ painted_from painted }
-{
-    let reply = painted.reply;
-    let lit = painted.counts;
-    Painted {
-        answer: answer_of(reply),
-        counts: Counts { lit },
-    }
-}
-
-fn settled_of(settled: counts::Settled) -> Settled
-    ensures { result ≡ settled_from settled }
-{
-    let lit = settled.counts;
-    Settled {
-        number: settled.number,
-        counts: Counts { lit },
-    }
+    Written::from(words_of(bytes, out))
 }
 
 #[unsafe(no_mangle)]
@@ -164,9 +187,10 @@ pub extern "C" fn pailradish_paint(
 ) -> Painted
     ensures value { result ≡ painted_from (painted_of c.shape (call_from font.now c text.now) panel.old counts.lit) }
     ensures panel { panel.new ≡ (counted_by c font.now text.now panel.old counts.lit).panel }
+    ensures number { result.answer.number ≡ (counted_by c font.now text.now panel.old counts.lit).number }
 {
     let lit = counts.lit;
-    painted_of(counts::paint(font, c.shape, c.label, text, panel, lit))
+    Painted::from(counts::paint(font, c.shape, c.label, text, panel, lit))
 }
 
 #[unsafe(no_mangle)]
@@ -175,7 +199,7 @@ pub extern "C" fn pailradish_fresh(s: Shape, keep: &mut [u16], flip: &mut [u16])
     ensures keep { keep.new ≡ (fresh_after s (sheet_of keep.old flip.old)).keep }
     ensures flip { flip.new ≡ (fresh_after s (sheet_of keep.old flip.old)).flip }
 {
-    sheets::fresh(s, keep, flip)
+    number_of(sheets::fresh(s, keep, flip))
 }
 
 #[unsafe(no_mangle)]
@@ -189,8 +213,9 @@ pub extern "C" fn pailradish_gather(
     ensures value { result ≡ answer_of (gather_reply c.shape (call_from font.now c text.now) (sheet_of keep.old flip.old)) }
     ensures keep { keep.new ≡ (gathered_by c font.now text.now (sheet_of keep.old flip.old)).keep }
     ensures flip { flip.new ≡ (gathered_by c font.now text.now (sheet_of keep.old flip.old)).flip }
+    ensures number { result.number ≡ call_number c.shape (lengths_of keep.old flip.old) (call_from font.now c text.now) }
 {
-    answer_of(sheets::gather(font, c.shape, c.label, text, keep, flip))
+    Answer::from(sheets::gather(font, c.shape, c.label, text, keep, flip))
 }
 
 #[unsafe(no_mangle)]
@@ -205,7 +230,7 @@ pub extern "C" fn pailradish_join(
     ensures keep { keep.new ≡ (join_after s (sheet_of keep.old flip.old) (sheet_of keep2.now flip2.now)).keep }
     ensures flip { flip.new ≡ (join_after s (sheet_of keep.old flip.old) (sheet_of keep2.now flip2.now)).flip }
 {
-    sheets::join(s, keep, flip, keep2, flip2)
+    number_of(sheets::join(s, keep, flip, keep2, flip2))
 }
 
 #[unsafe(no_mangle)]
@@ -216,26 +241,27 @@ pub extern "C" fn pailradish_apply(
     panel: &mut [u16],
     counts: Counts,
 ) -> Settled
-    ensures value { result ≡ settled_from (settled_of (apply_counted s (sheet_of keep.now flip.now) panel.old counts.lit)) }
+    ensures value { result ≡ settled_from (apply_counted s (sheet_of keep.now flip.now) panel.old counts.lit) }
     ensures panel { panel.new ≡ (apply_counted s (sheet_of keep.now flip.now) panel.old counts.lit).panel }
 {
     let lit = counts.lit;
-    settled_of(counts::apply(s, keep, flip, panel, lit))
+    Settled::from(counts::apply(s, keep, flip, panel, lit))
 }
 
 #[unsafe(no_mangle)]
 pub extern "C" fn pailradish_clear(s: Shape, panel: &mut [u16], counts: Counts) -> Settled
-    ensures value { result ≡ settled_from (settled_of (clear_counted s panel.old counts.lit)) }
+    ensures value { result ≡ settled_from (clear_counted s panel.old counts.lit) }
     ensures panel { panel.new ≡ (clear_counted s panel.old counts.lit).panel }
 {
     let lit = counts.lit;
-    settled_of(counts::clear(s, panel, lit))
+    Settled::from(counts::clear(s, panel, lit))
 }
 
 #[unsafe(no_mangle)]
 pub extern "C" fn pailradish_convert(cu: &[u16], out: &mut [u16]) -> Written
     ensures value { result ≡ written_of (conversion_of cu.now (length out.old)) }
     ensures out { out.new ≡ output_after cu.now out.old }
+    ensures number { result.number ≡ cu_number cu.now (length out.old) }
 {
-    written_of(convert::convert(cu, out))
+    Written::from(convert::convert(cu, out))
 }

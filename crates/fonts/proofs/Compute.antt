@@ -4,7 +4,7 @@ use Rattle.fonts.specs.Strike.{start_from, view_of, first_strike, strike_in, poi
 use Rattle.fonts.specs.Entry.{name_of, name_in, marked, struck, present, columns_of, left_of, left_from_pen, advance_of}
 use Rattle.fonts.specs.Reading.{too_short, bad_format, kerned_too_short, bad_codes, bad_count, bad_box, front_number}
 use Rattle.fonts.specs.Reading.{bad_sizes, wrong_length, wrong_end, head_number, falls_from, bad_pointers, body_number, bodies_number}
-use Rattle.fonts.specs.Reading.{pairs_in, lost, lost_at, nameless, no_dummy, table_number, number_by, font_number, accepted, reading_for}
+use Rattle.fonts.specs.Reading.{pairs_in, lost, lost_at, nameless, no_dummy, table_number, number_by, font_number, accepted}
 use Rattle.fonts.specs.Face.{in_range, picture_of, strike_named, entry_in, exists, place_of_code, glyph_by, glyph_from}
 use Rattle.fonts.specs.Face.{dot_of, dots_of, face_from, face_of, row_of}
 use Rattle.words.proofs.Compute.{computing as below}
@@ -30,7 +30,7 @@ unfolding bad_sizes wrong_length wrong_end head_number falls_from bad_pointers b
 bodies = tt
 
 unfoldable pub numbers : Unit {0}
-unfolding pairs_in lost lost_at nameless no_dummy table_number number_by font_number accepted reading_for
+unfolding pairs_in lost lost_at nameless no_dummy table_number number_by font_number accepted
 numbers = tt
 
 unfoldable pub faces : Unit {0}

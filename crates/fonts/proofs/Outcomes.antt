@@ -1,9 +1,15 @@
 -- Two outcomes that a contract permits are equal, for each public function of this crate. A part is told by the words that it holds.
 use mathlib.Core.Path.{◌≡◌, sym, ◌∙◌}
 use contract.Lifetimes.{Lfts}
+use denote.Param.Laws.{Laws, IsCopy}
+use denote.RattleType.{RattleType}
 use denote.Triple.Clauses.{AtExit}
+use mir.Syntax.{Dict}
+use Rattle.std.specs.declared.clone.Clone.{Ghosts as CloneGhosts}
+use Rattle.words.specs.declared.list.Words.{Ghosts as WordsGhosts}
 use borrow.Fn.Kinds.{Dens, res_t, ended_of}
 use Rattle.words.proofs.Outcomes.{OneReply}
+use Rattle.fonts.proofs.Readings.{same-answer}
 use Rattle.fonts.proofs.Header.by as header-by
 use Rattle.fonts.proofs.count_at as count-at
 use Rattle.fonts.proofs.Header.index as index
@@ -21,11 +27,9 @@ use Rattle.fonts.proofs.bitmaps as bitmaps
 use Rattle.fonts.proofs.number_at as number_at
 use Rattle.fonts.proofs.marked as marked
 use Rattle.fonts.proofs.in_range as in-range
-use Rattle.fonts.proofs.front_number as front-number
+use Rattle.fonts.proofs.check_front as check-front
 use Rattle.fonts.proofs.fallen_with as fallen-with
 use Rattle.fonts.proofs.bad_pointers as bad-pointers
-use Rattle.fonts.proofs.greater as greater
-use Rattle.fonts.proofs.lesser as lesser
 use Rattle.fonts.proofs.Named.of as named-of
 use Rattle.fonts.proofs.Glyph.named as glyph-named
 use Rattle.fonts.proofs.Glyph.found as glyph-found
@@ -37,7 +41,7 @@ use Rattle.fonts.proofs.pointers as pointers
 use Rattle.fonts.proofs.widths as widths
 use Rattle.fonts.proofs.Header.codes as codes
 use Rattle.fonts.proofs.Header.place as place
-use Rattle.fonts.proofs.head_number as head-number
+use Rattle.fonts.proofs.check_head as check-head
 use Rattle.fonts.proofs.number as number
 use Rattle.fonts.proofs.read as read
 use Rattle.fonts.proofs.Step.by as step_by
@@ -71,19 +75,8 @@ nothing-one κs a r o e e' p q = p ∙ sym q
 pub first_one : OneReply 0 first.Kinds.ps first.Kinds.r first.Reads.Post
 first_one κs a r o e e' p q = p ∙ sym q
 
-pub strike-one : OneReply 2 strike.Kinds.ps strike.Kinds.r strike.Reads.Post
-strike-one κs a r o e e' p q = p ∙ sym q
-
 pub name-of-one : OneReply 0 name_of.Kinds.ps name_of.Kinds.r name_of.Reads.Post
 name-of-one κs a r o e e' p q = p.0 ∙ sym q.0
-
-pub map-one : (κs : Lfts 1) (a : Dens κs map.Kinds.ps) (r o : (res_t map.Kinds.r κs).Denot)
-    (e e' : AtExit (ended_of 1 map.Kinds.ps map.Kinds.r) κs)
-    → map.Reads.Post κs a r e → map.Reads.Post κs a o e' → r.now ≡ o.now
-map-one κs a r o e e' p q = p ∙ sym q
-
-pub bitmaps-one : OneReply 1 bitmaps.Kinds.ps bitmaps.Kinds.r bitmaps.Reads.Post
-bitmaps-one κs a r o e e' p q = p ∙ sym q
 
 pub number-at-one : OneReply 1 number_at.Kinds.ps number_at.Kinds.r number_at.Reads.Post
 number-at-one κs a r o e e' p q = p ∙ sym q
@@ -94,8 +87,8 @@ marked-one κs a r o e e' p q = p ∙ sym q
 pub in-range-one : OneReply 0 in-range.Kinds.ps in-range.Kinds.r in-range.Reads.Post
 in-range-one κs a r o e e' p q = p ∙ sym q
 
-pub front-number-one : OneReply 0 front-number.Kinds.ps front-number.Kinds.r front-number.Reads.Post
-front-number-one κs a r o e e' p q = p ∙ sym q
+pub check-front-one : OneReply 0 check-front.Kinds.ps check-front.Kinds.r check-front.Reads.Post
+check-front-one κs a r o e e' p q = same-answer r o (p ∙ sym q)
 
 pub fallen-with-one : OneReply 0 fallen-with.Kinds.ps fallen-with.Kinds.r fallen-with.Reads.Post
 fallen-with-one κs a r o e e' p q = p ∙ sym q
@@ -109,19 +102,6 @@ glyph-found-one κs a r o e e' p q = p ∙ sym q
 pub rows-in-all-one : OneReply 1 rows-in-all.Kinds.ps rows-in-all.Kinds.r rows-in-all.Reads.Post
 rows-in-all-one κs a r o e e' p q = p ∙ sym q
 
-pub view-of-one : OneReply 1 view_of.Kinds.ps view_of.Kinds.r view_of.Reads.Post
-view-of-one κs a r o e e' p q = p ∙ sym q
-
-pub pointers-one : (κs : Lfts 1) (a : Dens κs pointers.Kinds.ps) (r o : (res_t pointers.Kinds.r κs).Denot)
-    (e e' : AtExit (ended_of 1 pointers.Kinds.ps pointers.Kinds.r) κs)
-    → pointers.Reads.Post κs a r e → pointers.Reads.Post κs a o e' → r.now ≡ o.now
-pointers-one κs a r o e e' p q = p ∙ sym q
-
-pub widths-one : (κs : Lfts 1) (a : Dens κs widths.Kinds.ps) (r o : (res_t widths.Kinds.r κs).Denot)
-    (e e' : AtExit (ended_of 1 widths.Kinds.ps widths.Kinds.r) κs)
-    → widths.Reads.Post κs a r e → widths.Reads.Post κs a o e' → r.now ≡ o.now
-widths-one κs a r o e e' p q = p ∙ sym q
-
 pub kerned-one : OneReply 0 kerned.Kinds.ps kerned.Kinds.r kerned.Reads.Post
 kerned-one κs a r o e e' p q = p ∙ sym q
 
@@ -134,17 +114,11 @@ codes-one κs a r o e e' p q = p ∙ sym q
 pub place-one : OneReply 0 place.Kinds.ps place.Kinds.r place.Reads.Post
 place-one κs a r o e e' p q = p ∙ sym q
 
-pub head-number-one : OneReply 0 head-number.Kinds.ps head-number.Kinds.r head-number.Reads.Post
-head-number-one κs a r o e e' p q = p ∙ sym q
+pub check-head-one : OneReply 0 check-head.Kinds.ps check-head.Kinds.r check-head.Reads.Post
+check-head-one κs a r o e e' p q = same-answer r o (p ∙ sym q)
 
 pub pointers-at-one : OneReply 0 pointers-at.Kinds.ps pointers-at.Kinds.r pointers-at.Reads.Post
 pointers-at-one κs a r o e e' p q = p.0 ∙ sym q.0
-
-pub number-one : OneReply 1 number.Kinds.ps number.Kinds.r number.Reads.Post
-number-one κs a r o e e' p q = p ∙ sym q
-
-pub read_one : OneReply 1 read.Kinds.ps read.Kinds.r read.Reads.Post
-read_one κs a r o e e' p q = p.0 ∙ sym q.0
 
 pub step-by-one : OneReply 0 step_by.Kinds.ps step_by.Kinds.r step_by.Reads.Post
 step-by-one κs a r o e e' p q = p ∙ sym q
@@ -166,20 +140,66 @@ pub row_one : (κs : Lfts 1) (a : Dens κs row.Kinds.ps) (r o : (res_t row.Kinds
     → row.Reads.Post κs a r e → row.Reads.Post κs a o e' → r.now ≡ o.now
 row_one κs a r o e e' p q = p ∙ sym q
 
-pub greater-one : OneReply 0 greater.Kinds.ps greater.Kinds.r greater.Reads.Post
-greater-one κs a r o e e' p q = p ∙ sym q
-
-pub lesser-one : OneReply 0 lesser.Kinds.ps lesser.Kinds.r lesser.Reads.Post
-lesser-one κs a r o e e' p q = p ∙ sym q
-
 pub named-of-one : OneReply 2 named-of.Kinds.ps named-of.Kinds.r named-of.Reads.Post
 named-of-one κs a r o e e' p q = p ∙ sym q
 
 pub glyph-named-one : OneReply 2 glyph-named.Kinds.ps glyph-named.Kinds.r glyph-named.Reads.Post
 glyph-named-one κs a r o e e' p q = p ∙ sym q
 
-pub find-bitmaps-one : (κs : Lfts 2) (a : Dens κs find-bitmaps.Kinds.ps) (r o : (res_t find-bitmaps.Kinds.r κs).Denot)
-    (e e' : AtExit (ended_of 2 find-bitmaps.Kinds.ps find-bitmaps.Kinds.r) κs)
-    → find-bitmaps.Reads.Post κs a r e → find-bitmaps.Reads.Post κs a o e'
-    → e.1.1.0.now ≡ e'.1.1.0.now
-find-bitmaps-one κs a r o e e' p q = p ∙ sym q
+-- Of what reads words and bytes alike the same, whatever the words lie in. A part is told by the numbers that it holds.
+module _ (F : RattleType) (laws : Laws F) (copy : IsCopy F) (words : WordsGhosts F.Denot) (dict : Dict) (clone : CloneGhosts F.Denot)
+    (clone-dict : Dict) where
+  pub view-of-one : (κs : Lfts 1) (a : Dens κs (view_of.Kinds.ps F laws copy)) (r o : (res_t (view_of.Kinds.r F laws copy) κs).Denot)
+      (e e' : AtExit (ended_of 1 (view_of.Kinds.ps F laws copy) (view_of.Kinds.r F laws copy)) κs)
+      → view_of.Reads.Post F laws copy words dict clone clone-dict κs a r e
+      → view_of.Reads.Post F laws copy words dict clone clone-dict κs a o e' → r ≡ o
+  view-of-one κs a r o e e' p q = p ∙ sym q
+
+  pub strike-one : (κs : Lfts 2) (a : Dens κs (strike.Kinds.ps F laws copy)) (r o : (res_t (strike.Kinds.r F laws copy) κs).Denot)
+      (e e' : AtExit (ended_of 2 (strike.Kinds.ps F laws copy) (strike.Kinds.r F laws copy)) κs)
+      → strike.Reads.Post F laws copy words dict clone clone-dict κs a r e
+      → strike.Reads.Post F laws copy words dict clone clone-dict κs a o e' → r ≡ o
+  strike-one κs a r o e e' p q = p ∙ sym q
+
+  pub pointers-one : (κs : Lfts 1) (a : Dens κs (pointers.Kinds.ps F laws copy)) (r o : (res_t (pointers.Kinds.r F laws copy) κs).Denot)
+      (e e' : AtExit (ended_of 1 (pointers.Kinds.ps F laws copy) (pointers.Kinds.r F laws copy)) κs)
+      → pointers.Reads.Post F laws copy words dict clone clone-dict κs a r e
+      → pointers.Reads.Post F laws copy words dict clone clone-dict κs a o e' → words.held r ≡ words.held o
+  pointers-one κs a r o e e' p q = p.1 ∙ sym q.1
+
+  pub widths-one : (κs : Lfts 1) (a : Dens κs (widths.Kinds.ps F laws copy)) (r o : (res_t (widths.Kinds.r F laws copy) κs).Denot)
+      (e e' : AtExit (ended_of 1 (widths.Kinds.ps F laws copy) (widths.Kinds.r F laws copy)) κs)
+      → widths.Reads.Post F laws copy words dict clone clone-dict κs a r e
+      → widths.Reads.Post F laws copy words dict clone clone-dict κs a o e' → words.held r ≡ words.held o
+  widths-one κs a r o e e' p q = p.1 ∙ sym q.1
+
+  pub map-one : (κs : Lfts 1) (a : Dens κs (map.Kinds.ps F laws copy)) (r o : (res_t (map.Kinds.r F laws copy) κs).Denot)
+      (e e' : AtExit (ended_of 1 (map.Kinds.ps F laws copy) (map.Kinds.r F laws copy)) κs)
+      → map.Reads.Post F laws copy words dict clone clone-dict κs a r e
+      → map.Reads.Post F laws copy words dict clone clone-dict κs a o e' → words.held r ≡ words.held o
+  map-one κs a r o e e' p q = p.1 ∙ sym q.1
+
+  pub bitmaps-one : (κs : Lfts 1) (a : Dens κs (bitmaps.Kinds.ps F laws copy)) (r o : (res_t (bitmaps.Kinds.r F laws copy) κs).Denot)
+      (e e' : AtExit (ended_of 1 (bitmaps.Kinds.ps F laws copy) (bitmaps.Kinds.r F laws copy)) κs)
+      → bitmaps.Reads.Post F laws copy words dict clone clone-dict κs a r e
+      → bitmaps.Reads.Post F laws copy words dict clone clone-dict κs a o e' → r ≡ o
+  bitmaps-one κs a r o e e' p q = p ∙ sym q
+
+  pub find-bitmaps-one : (κs : Lfts 2) (a : Dens κs (find-bitmaps.Kinds.ps F laws copy))
+      (r o : (res_t (find-bitmaps.Kinds.r F laws copy) κs).Denot)
+      (e e' : AtExit (ended_of 2 (find-bitmaps.Kinds.ps F laws copy) (find-bitmaps.Kinds.r F laws copy)) κs)
+      → find-bitmaps.Reads.Post F laws copy words dict clone clone-dict κs a r e
+      → find-bitmaps.Reads.Post F laws copy words dict clone clone-dict κs a o e' → e.1.1.0.now ≡ e'.1.1.0.now
+  find-bitmaps-one κs a r o e e' p q = p ∙ sym q
+
+  pub number-one : (κs : Lfts 1) (a : Dens κs (number.Kinds.ps F laws copy)) (r o : (res_t (number.Kinds.r F laws copy) κs).Denot)
+      (e e' : AtExit (ended_of 1 (number.Kinds.ps F laws copy) (number.Kinds.r F laws copy)) κs)
+      → number.Reads.Post F laws copy words dict clone clone-dict κs a r e
+      → number.Reads.Post F laws copy words dict clone clone-dict κs a o e' → r ≡ o
+  number-one κs a r o e e' p q = p ∙ sym q
+
+  pub read_one : (κs : Lfts 1) (a : Dens κs (read.Kinds.ps F laws copy)) (r o : (res_t (read.Kinds.r F laws copy) κs).Denot)
+      (e e' : AtExit (ended_of 1 (read.Kinds.ps F laws copy) (read.Kinds.r F laws copy)) κs)
+      → read.Reads.Post F laws copy words dict clone clone-dict κs a r e
+      → read.Reads.Post F laws copy words dict clone clone-dict κs a o e' → r ≡ o
+  read_one κs a r o e e' p q = p.0 ∙ sym q.0

@@ -3,47 +3,48 @@ use Prim.Native.Nat.{ℕ}
 use mathlib.Core.Path.{◌≡◌, refl, sym, ap, ◌∙◌}
 use mathlib.Core.Bool.{Bool, true, false, cond, true≢false, false≢true}
 use lib.Dec.{eqb}
-use borrow.Author.Tests.{eqb-true, eqb-false}
-use Rattle.fonts.specs.declared.View.{View}
-use Rattle.fonts.specs.declared.Reading.{Reading}
-use Rattle.fonts.specs.declared.Reading.TheVariants.{Accepted, Refused}
-use Rattle.fonts.specs.Reading.{reading_for, reading_number}
+use borrow.Author.Tests.{eqb-true}
+use Rattle.std.specs.Prelude.{is_err}
+use Rattle.std.specs.declared.result.Result.{Result}
+use Rattle.std.specs.declared.result.Result.TheVariants.{Ok, Err}
+use Rattle.words.specs.declared.refusal.Refusal.{Refusal}
+use Rattle.words.specs.Refusal.{number_of, refusal_of, returned, answered}
+use Rattle.words.proofs.Refusals.{number-not-0, same-refusal}
 
--- whether it accepts, and the view: of every answer
-abbrev accepts : Reading → Bool
-accepts (Accepted v) = true
-accepts (Refused number) = false
+module _ {A : Type 0} where
+  -- whether it accepts, and what it found: of every answer
+  abbrev accepts : Result A Refusal → Bool
+  accepts (Ok value) = true
+  accepts (Err refusal) = false
 
-abbrev view_in : View → Reading → View
-view_in other (Accepted v) = v
-view_in other (Refused number) = other
+  abbrev found-in : A → Result A Refusal → A
+  found-in other (Ok value) = value
+  found-in other (Err refusal) = other
 
-module _ (number : ℕ) (view : View) where
-  by-choice : (C : Reading → Type 0)
-      → (number ≡ 0 → C (Accepted view)) → ((number ≡ 0 → ⊥) → C (Refused number)) → C (reading_for number view)
-  unfolding reading_for
-  by-choice C good bad = either (eqb number 0) refl
+  pub told-refused : (answer : Result A Refusal) → is_err answer ≡ true → returned answer ≡ 0 → ⊥
+  told-refused (Ok value) e = λ _. false≢true e
+  told-refused (Err refusal) e = number-not-0 refusal
+
+  pub told-accepted : (answer : Result A Refusal) → is_err answer ≡ false → returned answer ≡ 0
+  told-accepted (Ok value) e = refl
+  told-accepted (Err refusal) e = absurd (true≢false e)
+
+  -- a refusal's number is the font's, and is not 0
+  pub read-refused : (number : ℕ) (answer : Result A Refusal) (refusal : Refusal) → returned answer ≡ number → answer ≡ Err refusal
+      → (number_of refusal ≡ number) × (number_of refusal ≡ 0 → ⊥)
+  read-refused number answer refusal told is = (sym (ap returned is) ∙ told, number-not-0 refusal)
+
+  pub read-accepted : (number : ℕ) (value v : A) → answered number value ≡ Ok v → (number ≡ 0) × (v ≡ value)
+  unfolding answered
+  read-accepted number value v = either (eqb number 0) refl
     where
-      either : (t : Bool) → eqb number 0 ≡ t → C (cond t (Accepted view) (Refused number))
-      either true e = good (eqb-true number 0 e)
-      either false e = bad (eqb-false number 0 e)
+      either : (t : Bool) → eqb number 0 ≡ t → cond t (Ok value) (Err (refusal_of number)) ≡ Ok v → (number ≡ 0) × (v ≡ value)
+      either true e is = (eqb-true number 0 e, sym (ap (found-in v) is))
+      either false e is = absurd (false≢true (ap accepts is))
 
-  -- the paper's number for the answer is that number
-  pub reading-number : reading_number (reading_for number view) ≡ number
-  reading-number = by-choice (λ (r : Reading). reading_number r ≡ number) (λ nothing. sym nothing) (λ some. refl)
-
-  -- so an answer that is known tells it too
-  pub tells : (answer : Reading) → answer ≡ reading_for number view → (answer ≡ reading_for number view) × (reading_number answer ≡ number)
-  tells answer is = (is, ap reading_number is ∙ reading-number)
-
-  pub read-refused : (n : ℕ) → reading_for number view ≡ Refused n → (n ≡ number) × (n ≡ 0 → ⊥)
-  read-refused n =
-      by-choice (λ (r : Reading). r ≡ Refused n → (n ≡ number) × (n ≡ 0 → ⊥))
-      (λ nothing e. absurd (true≢false (ap accepts e)))
-      (λ some e. (sym (ap reading_number e), λ z. some (ap reading_number e ∙ z)))
-
-  pub read-accepted : (v : View) → reading_for number view ≡ Accepted v → (number ≡ 0) × (v ≡ view)
-  read-accepted v =
-      by-choice (λ (r : Reading). r ≡ Accepted v → (number ≡ 0) × (v ≡ view))
-      (λ nothing e. (nothing, sym (ap (view_in v) e)))
-      (λ some e. absurd (false≢true (ap accepts e)))
+-- answers of one number are one, where nothing stands beside done
+pub same-answer : (one other : Result (Unit {0}) Refusal) → returned one ≡ returned other → one ≡ other
+same-answer (Ok one) (Ok other) e = refl
+same-answer (Ok one) (Err other) e = absurd (number-not-0 other (sym e))
+same-answer (Err one) (Ok other) e = absurd (number-not-0 one e)
+same-answer (Err one) (Err other) e = ap Err (same-refusal one other e)

@@ -3,14 +3,14 @@ use Rattle.std.specs.Prelude.{ℕ, zero, suc, ◌+◌, ◌-◌, ◌*◌, ◌%◌
 use Rattle.std.specs.Prelude.{eqb, length}
 use Rattle.words.specs.Word.{word, bit_of, table, over}
 use Rattle.words.specs.Search.{some_below}
-use Rattle.words.specs.Refusal.{first_of, or_else, not_within}
+use Rattle.words.specs.Refusal.{first_of, or_else, not_within, answered}
 use Rattle.words.specs.Place.{place_of_word}
 use Rattle.fonts.specs.declared.Header.{Header}
 use Rattle.fonts.specs.declared.Body.{Body}
 use Rattle.fonts.specs.declared.View.{View}
 use Rattle.fonts.specs.declared.Name.{Name}
-use Rattle.fonts.specs.declared.Reading.{Reading}
-use Rattle.fonts.specs.declared.Reading.TheVariants.{Accepted, Refused}
+use Rattle.std.specs.declared.result.Result.{Result}
+use Rattle.words.specs.declared.refusal.Refusal.{Refusal}
 use Rattle.fonts.specs.Strike.{header_of, view_of, kerned, index, codes, height, bitmap_words, pointer_count, first_at, behind, body_of}
 use Rattle.fonts.specs.Strike.{body_start, strike_at, pointers_of, widths_of}
 use Rattle.fonts.specs.Entry.{name_of, name_in, marked}
@@ -134,14 +134,6 @@ font_number ws = number_by (header_of ws) ws
 unfoldable pub accepted : List ℕ → Bool
 accepted ws = eqb (font_number ws) 0
 
--- what reading answers, by the number of the refusal and the view
-unfoldable pub reading_for : ℕ → View → Reading
-reading_for number v = cond (eqb number 0) (Accepted v) (Refused number)
-
-abbrev pub reading_of : List ℕ → Reading
-reading_of ws = reading_for (font_number ws) (view_of ws)
-
--- the paper's number for each answer
-abbrev pub reading_number : Reading → ℕ
-reading_number (Accepted v) = 0
-reading_number (Refused number) = number
+-- what reading answers: what finds the font's glyphs, or its refusal
+abbrev pub reading_of : List ℕ → Result View Refusal
+reading_of ws = answered (font_number ws) (view_of ws)

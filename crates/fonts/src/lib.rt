@@ -1,9 +1,10 @@
 // Reading Strike files of the four kinds, with an index and without: what a file is refused for, and what it shows for a code.
 #![tactic(auto)]
 
-ghost use Rattle.std.specs.Prelude.{◌≡◌, cond, true, ◌||◌, ltb, length, ◌+◌, ◌-◌, ◌*◌, ◌≤◌, min, max};
+ghost use Rattle.std.specs.Prelude.{◌≡◌, cond, true, ◌||◌, ltb, length, ◌+◌, ◌-◌, ◌*◌, ◌≤◌, min, max, IfOk};
 ghost use Rattle.words.specs.Word.{word, over};
 ghost use Rattle.words.specs.Search.{some_below};
+ghost use Rattle.words.specs.Refusal.{returned};
 ghost use Rattle.fonts.specs.Strike.{kerned_format, index_format, count_at, header_by, header_of, body_of, view_of, kerned, index, codes};
 ghost use Rattle.fonts.specs.Strike.{map_at, first_at, behind, height, tallest, largest, bitmap_words, pointer_count};
 ghost use Rattle.fonts.specs.Strike.{no_strike, first_strike, strike_by, bitmap_start, bitmaps_of, map_of, pointers_of, widths_of, extent_of};
@@ -12,9 +13,11 @@ ghost use Rattle.fonts.specs.Reading.{bad_format, kerned_too_short, bad_codes, b
 ghost use Rattle.fonts.specs.Reading.{falls_from, front_number, head_number, body_number, bodies_number};
 ghost use Rattle.fonts.specs.Reading.{pairs_of, EachHas, NamesWithin, lost, lost_at, nameless, no_dummy};
 ghost use Rattle.fonts.specs.Reading.{table_number, number_by, font_number};
-ghost use Rattle.fonts.specs.Reading.{reading_of, reading_number};
+ghost use Rattle.fonts.specs.Reading.{reading_of};
 ghost use Rattle.fonts.specs.Face.{in_range, picture_of, glyph_from, step_of, dot_of, dots_of, row_of};
 ghost use Rattle.fonts.specs.Kinds.{only_bitmap, there, glyph_in, step_by, glyph_tabled, named_at, named_in, glyph_named};
+
+use words::{Refusal, Words};
 
 // The words at the front of a font file that the reader looks at. A plain file has no box, and its fbbox is 0; a file without an index has
 // one body.
@@ -49,20 +52,6 @@ pub struct Strike {
 pub struct View {
     pub header: Header,
     pub body: Body,
-}
-
-// What checking the bodies of a font finds: the number of a refusal, or 0 and the fewest pointers that one of them has.
-#[derive(Clone, Copy)]
-pub struct Bodies {
-    pub number: u32,
-    pub fewest: u16,
-}
-
-// What reading a font answers.
-#[derive(Clone, Copy)]
-pub enum Reading {
-    Accepted(View),
-    Refused(u32),
 }
 
 // What a map entry names: a body, and a code in it, or that there is none.
@@ -170,16 +159,16 @@ impl Header {
         }
     }
 
-    fn of(font: &[u16]) -> Header
-        ensures { result ≡ header_of font.now }
+    fn of<F: Words>(font: F) -> Header
+        ensures { result ≡ header_of (F.as_words font) }
     {
-        let format = words::word_at(font, 0);
+        let format = font.word(0);
         Header::by(
             format,
-            words::word_at(font, 1),
-            words::word_at(font, 2),
-            words::word_at(font, 4),
-            words::word_at(font, count_at(format)),
+            font.word(1),
+            font.word(2),
+            font.word(4),
+            font.word(count_at(format)),
         )
     }
 
@@ -209,7 +198,7 @@ impl Header {
     pub fn place(self, code: u32) -> usize
         ensures { result ≡ code - self.min }
     {
-        words::past(code as usize, self.min as usize)
+        (code as usize).saturating_sub(self.min as usize)
     }
 
     // Where the map begins, in a file that has one.
@@ -261,25 +250,25 @@ impl Header {
 
 impl Body {
     // The head of the body that begins with word `at`. Where all its words are there they are looked at with one test.
-    fn of(font: &[u16], at: usize) -> Body
+    fn of<F: Words>(font: F, at: usize) -> Body
         requires { at ≤ 4294967295 }
-        ensures { result ≡ body_of font.now at }
+        ensures { result ≡ body_of (F.as_words font) at }
     {
-        if at + 4 < font.len() {
+        if at + 4 < font.count() {
             return Body {
-                words: font[at],
-                ascent: font[at + 1],
-                descent: font[at + 2],
-                xoffset: font[at + 3],
-                raster: font[at + 4],
+                words: font.word(at),
+                ascent: font.word(at + 1),
+                descent: font.word(at + 2),
+                xoffset: font.word(at + 3),
+                raster: font.word(at + 4),
             };
         }
         Body {
-            words: words::word_at(font, at),
-            ascent: words::word_at(font, at + 1),
-            descent: words::word_at(font, at + 2),
-            xoffset: words::word_at(font, at + 3),
-            raster: words::word_at(font, at + 4),
+            words: font.word(at),
+            ascent: font.word(at + 1),
+            descent: font.word(at + 2),
+            xoffset: font.word(at + 3),
+            raster: font.word(at + 4),
         }
     }
 
@@ -301,7 +290,7 @@ impl Body {
     pub fn pointers(self) -> u16
         ensures { result ≡ pointer_count self }
     {
-        words::past(self.words as usize, self.bitmap_words() + 5) as u16
+        (self.words as usize).saturating_sub(self.bitmap_words() + 5) as u16
     }
 }
 
@@ -332,49 +321,44 @@ impl Strike {
 }
 
 // The column pointers of a body: the part of the file that begins after the bitmap.
-pub fn pointers(font: &[u16], s: Strike) -> &[u16]
-    ensures { result.now ≡ pointers_of s font.now }
+pub fn pointers<F: Words>(font: F, s: Strike) -> F
+    ensures words { F.as_words result ≡ pointers_of s (F.as_words font) }
+    ensures held { F.held result ≡ F.part_held (s.bitmap + bitmap_words s.body) (pointer_count s.body) (F.held font) }
 {
-    let from = s.pointers_at();
-    let count = s.body.pointers() as usize;
-    if from + count <= font.len() {
-        return &font[from..from + count];
-    }
-    words::part(font, from, count)
+    font.part(s.pointers_at(), s.body.pointers() as usize)
 }
 
 // The width entries: the last part of the file.
-pub fn widths(font: &[u16], h: Header) -> &[u16]
-    ensures { result.now ≡ widths_of h font.now }
+pub fn widths<F: Words>(font: F, h: Header) -> F
+    ensures words { F.as_words result ≡ widths_of h (F.as_words font) }
+    ensures held { F.held result ≡ F.part_held (length (F.as_words font) - (codes h + 1)) (codes h + 1) (F.held font) }
 {
     let entries = h.codes() + 1;
-    words::part(font, words::past(font.len(), entries), entries)
+    font.part(font.count().saturating_sub(entries), entries)
 }
 
 // The map: the part of the file behind the words at the front.
-pub fn map(font: &[u16], h: Header) -> &[u16]
-    ensures { result.now ≡ map_of h font.now }
+pub fn map<F: Words>(font: F, h: Header) -> F
+    ensures words { F.as_words result ≡ map_of h (F.as_words font) }
+    ensures held { F.held result ≡ F.part_held (map_at h) (codes h + 1) (F.held font) }
 {
-    words::part(font, h.map_at(), h.codes() + 1)
+    font.part(h.map_at(), h.codes() + 1)
 }
 
 // Writes into a table where the bitmap of each body begins: found by walking over the bodies once. What the table has behind them stays.
-pub fn find_bitmaps(font: &[u16], h: Header, table: &mut [u32])
-    ensures { table.new ≡ over (min (length table.old) h.bodies) (bitmap_start h font.now) table.old }
+pub fn find_bitmaps<F: Words>(font: F, h: Header, table: &mut [u32])
+    ensures { table.new ≡ over (min (length table.old) h.bodies) (bitmap_start h (F.as_words font)) table.old }
 {
-    let count = words::least(table.len(), h.bodies as usize);
     let mut at = h.first_at();
-    let mut k = 0;
-    while k < count {
+    for k in 0..table.len().min(h.bodies as usize) {
         table[k] = at as u32 + 5;
-        at += words::word_at(font, at) as usize;
-        k += 1;
+        at += font.word(at) as usize;
     }
 }
 
 // The same as a table of its own. Of bodies that are not there it is 5.
-pub fn bitmaps(font: &[u16], h: Header) -> [u32; 128]
-    ensures { result ≡ bitmaps_of h font.now }
+pub fn bitmaps<F: Words>(font: F, h: Header) -> [u32; 128]
+    ensures { result ≡ bitmaps_of h (F.as_words font) }
 {
     let mut table = [5u32; 128];
     find_bitmaps(font, h, &mut table);
@@ -385,15 +369,12 @@ pub fn bitmaps(font: &[u16], h: Header) -> [u32; 128]
 pub fn number_at(list: &[u32], i: usize) -> u32
     ensures { result ≡ word list.now i }
 {
-    if i < list.len() {
-        return list[i];
-    }
-    0
+    list.get(i).copied().unwrap_or(0)
 }
 
 impl View {
-    pub fn of(font: &[u16]) -> View
-        ensures { result ≡ view_of font.now }
+    pub fn of<F: Words>(font: F) -> View
+        ensures { result ≡ view_of (F.as_words font) }
     {
         let header = Header::of(font);
         let body = Body::of(font, header.first_at());
@@ -412,8 +393,8 @@ impl View {
     }
 
     // Body k, where the bitmaps of all are known.
-    pub fn strike(self, font: &[u16], bitmaps: &[u32], k: usize) -> Strike
-        ensures { result ≡ strike_by self bitmaps.now font.now k }
+    pub fn strike<F: Words>(self, font: F, bitmaps: &[u32], k: usize) -> Strike
+        ensures { result ≡ strike_by self bitmaps.now (F.as_words font) k }
     {
         if k == 0 {
             return self.first();
@@ -424,7 +405,7 @@ impl View {
         let bitmap = number_at(bitmaps, k);
         Strike {
             bitmap,
-            body: Body::of(font, words::past(bitmap as usize, 5)),
+            body: Body::of(font, (bitmap as usize).saturating_sub(5)),
         }
     }
 }
@@ -561,31 +542,31 @@ fn map_cut(h: Header, count: usize) -> bool
 }
 
 // What a file of so many words is refused for by the words before its first body alone.
-pub fn front_number(h: Header, count: usize) -> u32
-    ensures { result ≡ front_number h count }
+pub fn check_front(h: Header, count: usize) -> Result<(), Refusal>
+    ensures { returned result ≡ front_number h count }
 {
     if count < 9 {
-        return 1;
+        return Err(Refusal::FontTooShort);
     }
     if bad_format(h) {
-        return 2;
+        return Err(Refusal::NotAStrike);
     }
     if kerned_too_short(h, count) {
-        return 1;
+        return Err(Refusal::FontTooShort);
     }
     if bad_codes(h) {
-        return 3;
+        return Err(Refusal::FontCodes);
     }
     if words::not_within(1, 128, h.bodies as usize) {
-        return 15;
+        return Err(Refusal::BodyCount);
     }
     if map_cut(h, count) {
-        return 1;
+        return Err(Refusal::FontTooShort);
     }
     if bad_box(h) {
-        return 4;
+        return Err(Refusal::FontSize);
     }
-    0
+    Ok(())
 }
 
 fn bad_sizes(b: Body) -> bool
@@ -626,23 +607,23 @@ fn wrong_end(h: Header, end: usize, last: bool, count: usize) -> bool
 }
 
 // What a file of so many words is refused for by the head of the body that begins with word `at`.
-pub fn head_number(h: Header, b: Body, at: u32, last: bool, count: usize) -> u32
-    ensures { result ≡ head_number h b at last count }
+pub fn check_head(h: Header, b: Body, at: u32, last: bool, count: usize) -> Result<(), Refusal>
+    ensures { returned result ≡ head_number h b at last count }
 {
     let at = at as usize;
     if count < at + 5 {
-        return 5;
+        return Err(Refusal::FontLength);
     }
     if bad_sizes(b) {
-        return 4;
+        return Err(Refusal::FontSize);
     }
     if wrong_length(h, b) {
-        return 5;
+        return Err(Refusal::FontLength);
     }
     if wrong_end(h, at + b.words as usize, last, count) {
-        return 5;
+        return Err(Refusal::FontLength);
     }
-    0
+    Ok(())
 }
 
 // A pointer is smaller than the one before, or some pointer was.
@@ -655,15 +636,20 @@ pub fn fallen_with(fallen: bool, before: u16, pointer: u16) -> bool
     fallen
 }
 
-// Each is compared with the one before, and the loop goes on where one falls: so the compiler looks at several at once.
-fn falls(pointers: &[u16]) -> bool
-    ensures { result ≡ falls_from 0 pointers.now }
+// Each is compared with the one before, and the loop goes on where one falls: so the compiler looks at several at once. Of words it does so
+// where the one before is read again, and of bytes where it is kept.
+fn falls<F: Words>(pointers: F) -> bool
+    ensures { result ≡ falls_from 0 (F.as_words pointers) }
 {
     let mut fallen = false;
-    let mut i = 1;
-    while i < pointers.len() {
-        fallen = fallen_with(fallen, pointers[i - 1], pointers[i]);
-        i += 1;
+    let mut before = pointers.word(0);
+    for i in 1..pointers.count() {
+        if F::READ_AGAIN {
+            before = pointers.word(i - 1);
+        }
+        let pointer = pointers.word(i);
+        fallen = fallen_with(fallen, before, pointer);
+        before = pointer;
     }
     fallen
 }
@@ -678,30 +664,14 @@ pub fn bad_pointers(b: Body, falls: bool, last: u16) -> bool
     16 * (b.raster as usize) < last as usize
 }
 
-// The greater of two words.
-pub fn greater(a: u16, b: u16) -> u16
-    ensures { result ≡ max a b }
-{
-    if a < b { b } else { a }
-}
-
-// The lesser of two words.
-pub fn lesser(a: u16, b: u16) -> u16
-    ensures { result ≡ min a b }
-{
-    if b < a { b } else { a }
-}
-
-// What a font is refused for by the body that begins with word `at`.
-fn body_number(font: &[u16], h: Header, at: u32, last: bool) -> u32
+// The head of the body that begins with word `at`, or what a font is refused for by that body.
+fn check_body<F: Words>(font: F, h: Header, at: u32, last: bool) -> Result<Body, Refusal>
     requires { at ≤ 4294967290 }
-    ensures { result ≡ body_number h font.now at last }
+    ensures number { returned result ≡ body_number h (F.as_words font) at last }
+    ensures body { IfOk result (λ body. body ≡ body_of (F.as_words font) at) }
 {
     let body = Body::of(font, at as usize);
-    let refusal = head_number(h, body, at, last, font.len());
-    if refusal != 0 {
-        return refusal;
-    }
+    check_head(h, body, at, last, font.count())?;
     let table = pointers(
         font,
         Strike {
@@ -709,94 +679,83 @@ fn body_number(font: &[u16], h: Header, at: u32, last: bool) -> u32
             body,
         },
     );
-    let end = words::word_at(table, words::past(table.len(), 1));
+    let end = table.word(table.count().saturating_sub(1));
     if bad_pointers(body, falls(table), end) {
-        return 6;
+        return Err(Refusal::Pointers);
     }
-    0
+    Ok(body)
 }
 
-// By its bodies in turn.
-fn check_bodies(font: &[u16], h: Header) -> Bodies
-    ensures number_value { result.number ≡ bodies_number h font.now h.bodies }
-    ensures fewest { result.number ≡ 0 → EachHas h font.now h.bodies result.fewest }
+// The fewest pointers that one of the bodies has, or what the first of them that is refused is refused for.
+fn check_bodies<F: Words>(font: F, h: Header) -> Result<u16, Refusal>
+    ensures number { returned result ≡ bodies_number h (F.as_words font) h.bodies }
+    ensures fewest { IfOk result (λ fewest. EachHas h (F.as_words font) h.bodies fewest) }
 {
     let count = h.bodies as usize;
     let mut fewest: u16 = 65535;
     let mut at = h.first_at();
-    let mut k = 0;
-    while k < count {
-        let number = body_number(font, h, at as u32, k + 1 == count);
-        if number != 0 {
-            return Bodies { number, fewest };
-        }
-        let body = Body::of(font, at);
-        fewest = lesser(fewest, body.pointers());
+    for k in 0..count {
+        let body = check_body(font, h, at as u32, k + 1 == count)?;
+        fewest = fewest.min(body.pointers());
         at += body.words as usize;
-        k += 1;
     }
-    Bodies { number: 0, fewest }
+    Ok(fewest)
 }
 
 // How many pointers each body has; none where it is not there.
-fn pairs(font: &[u16], h: Header) -> [u16; 128]
-    ensures { result ≡ pairs_of h font.now }
+fn pairs<F: Words>(font: F, h: Header) -> [u16; 128]
+    ensures { result ≡ pairs_of h (F.as_words font) }
 {
-    let count = words::least(128, h.bodies as usize);
     let mut table = [0u16; 128];
     let mut at = h.first_at();
-    let mut k = 0;
-    while k < count {
-        table[k] = Body::of(font, at).pointers();
-        at += words::word_at(font, at) as usize;
-        k += 1;
+    for k in 0..(h.bodies as usize).min(128) {
+        let body = Body::of(font, at);
+        table[k] = body.pointers();
+        at += body.words as usize;
     }
     table
 }
 
 // The entry at k is present and names no picture, where the body that it names has so many pointers. Its width entry is read only where it
 // names none.
-fn lost(h: Header, name: Name, pointers: u16, widths: &[u16], k: usize) -> bool
-    ensures { result ≡ lost h name (word widths.now k) pointers }
+fn lost<F: Words>(h: Header, name: Name, pointers: u16, widths: F, k: usize) -> bool
+    ensures { result ≡ lost h name (word (F.as_words widths) k) pointers }
 {
     if name.code as usize + 1 < pointers as usize {
         return false;
     }
-    !marked(h, name.missing, words::word_at(widths, k))
+    !marked(h, name.missing, widths.word(k))
 }
 
 // Some entry of the map does: looked for entry by entry.
-fn some_lost(font: &[u16], h: Header) -> bool
-    requires { (index h ≡ true) × (first_at h ≤ length font.now) }
-    ensures { result ≡ some_below (codes h + 1) (lost_at h font.now) }
+fn some_lost<F: Words>(font: F, h: Header) -> bool
+    requires { (index h ≡ true) × (first_at h ≤ length (F.as_words font)) }
+    ensures { result ≡ some_below (codes h + 1) (lost_at h (F.as_words font)) }
 {
     let pairs = pairs(font, h);
     let map = map(font, h);
     let widths = widths(font, h);
-    let mut k = 0;
-    while k < map.len() {
-        let name = Name::of(map[k]);
+    for k in 0..map.count() {
+        let name = Name::of(map.word(k));
         let body = name.body;
         if lost(h, name, pairs[body], widths, k) {
             return true;
         }
-        k += 1;
     }
     false
 }
 
 // Sure that every entry of the map names a body of so many, and a picture in it, where none has fewer pointers than so many: by the
 // greatest body and the greatest code that are named, which the compiler finds for several entries at once.
-fn within(map: &[u16], bodies: u16, fewest: u16) -> bool
-    ensures { result ≡ true → NamesWithin map.now bodies fewest }
+fn within<F: Words>(map: F, bodies: u16, fewest: u16) -> bool
+    ensures { result ≡ true → NamesWithin (F.as_words map) bodies fewest }
 {
     let mut body: u16 = 0;
     let mut code: u16 = 0;
-    let mut k = 0;
-    while k < map.len() {
-        body = greater(body, map[k] / 256 % 128);
-        code = greater(code, map[k] % 256);
-        k += 1;
+    for k in 0..map.count() {
+        let entry = map.word(k);
+        body = body.max(entry / 256 % 128);
+        code = code.max(entry % 256);
     }
     if bodies <= body {
         return false;
@@ -805,9 +764,9 @@ fn within(map: &[u16], bodies: u16, fewest: u16) -> bool
 }
 
 // So in a font with an index, whose bodies have so many pointers or more.
-fn nameless(font: &[u16], h: Header, fewest: u16) -> bool
-    requires { (first_at h ≤ length font.now) × EachHas h font.now h.bodies fewest }
-    ensures { result ≡ nameless h font.now }
+fn nameless<F: Words>(font: F, h: Header, fewest: u16) -> bool
+    requires { (first_at h ≤ length (F.as_words font)) × EachHas h (F.as_words font) h.bodies fewest }
+    ensures { result ≡ nameless h (F.as_words font) }
 {
     if h.index() {
         if within(map(font, h), h.bodies, fewest) {
@@ -819,11 +778,11 @@ fn nameless(font: &[u16], h: Header, fewest: u16) -> bool
 }
 
 // What is named k places past min's: by the map, or a code of the one body.
-fn name_at(font: &[u16], h: Header, k: u32) -> Name
-    ensures { result ≡ name_in h font.now k }
+fn name_at<F: Words>(font: F, h: Header, k: u32) -> Name
+    ensures { result ≡ name_in h (F.as_words font) k }
 {
     if h.index() {
-        return Name::of(words::word_at(map(font, h), k as usize));
+        return Name::of(map(font, h).word(k as usize));
     }
     Name {
         missing: false,
@@ -833,63 +792,54 @@ fn name_at(font: &[u16], h: Header, k: u32) -> Name
 }
 
 // There is no dummy.
-fn no_dummy(font: &[u16], h: Header) -> bool
-    ensures { result ≡ no_dummy h font.now }
+fn no_dummy<F: Words>(font: F, h: Header) -> bool
+    ensures { result ≡ no_dummy h (F.as_words font) }
 {
     let k = h.codes();
     let name = name_at(font, h, k as u32);
-    marked(h, name.missing, words::word_at(widths(font, h), k))
+    marked(h, name.missing, widths(font, h).word(k))
 }
 
 // By the map and the dummy.
-fn table_number(font: &[u16], h: Header, fewest: u16) -> u32
-    requires { (first_at h ≤ length font.now) × EachHas h font.now h.bodies fewest }
-    ensures { result ≡ table_number h font.now }
+fn check_tables<F: Words>(font: F, h: Header, fewest: u16) -> Result<(), Refusal>
+    requires { (first_at h ≤ length (F.as_words font)) × EachHas h (F.as_words font) h.bodies fewest }
+    ensures { returned result ≡ table_number h (F.as_words font) }
 {
     if nameless(font, h, fewest) {
-        return 16;
+        return Err(Refusal::NoPicture);
     }
     if no_dummy(font, h) {
-        return 7;
+        return Err(Refusal::NoDummy);
     }
-    0
+    Ok(())
 }
 
 // What a font is refused for, by its header.
-fn number_by(font: &[u16], h: Header) -> u32
-    ensures { result ≡ number_by h font.now }
+fn check<F: Words>(font: F, h: Header) -> Result<(), Refusal>
+    ensures { returned result ≡ number_by h (F.as_words font) }
 {
-    let front = front_number(h, font.len());
-    if front != 0 {
-        return front;
-    }
-    let found = check_bodies(font, h);
-    if found.number != 0 {
-        return found.number;
-    }
-    table_number(font, h, found.fewest)
+    check_front(h, font.count())?;
+    let fewest = check_bodies(font, h)?;
+    check_tables(font, h, fewest)
 }
 
-// Reads a font: what finds its glyphs, or the number of its refusal.
-pub fn read(font: &[u16]) -> Reading
-    ensures value { result ≡ reading_of font.now }
-    ensures number { reading_number result ≡ font_number font.now }
+// Reads a font: what finds its glyphs, or its refusal.
+pub fn read<F: Words>(font: F) -> Result<View, Refusal>
+    ensures value { result ≡ reading_of (F.as_words font) }
+    ensures number { returned result ≡ font_number (F.as_words font) }
 {
     let v = View::of(font);
-    let refusal = number_by(font, v.header);
-    if refusal != 0 {
-        return Reading::Refused(refusal);
-    }
-    Reading::Accepted(v)
+    check(font, v.header)?;
+    Ok(v)
 }
 
 // The number of a font file's refusal; 0 where it is accepted.
-pub fn number(font: &[u16]) -> u32
-    ensures { result ≡ font_number font.now }
+pub fn number<F: Words>(font: F) -> u32
+    ensures { result ≡ font_number (F.as_words font) }
 {
     match read(font) {
-        Reading::Refused(number) => number,
-        Reading::Accepted(_) => 0,
+        Err(refusal) => refusal.number(),
+        Ok(_) => 0,
     }
 }
 
@@ -1017,7 +967,9 @@ impl Glyph {
         }
     }
 
-    // What a font with an index shows by what its map says: a picture of the body that is named, by that body's own pointers.
+    // What a font with an index shows by what its map says: a picture of the body that is named, by that body's own pointers. A part of each
+    // of the loops that draw, where it is called for every character.
+    #[inline(always)]
     pub fn named(font: &[u16], v: View, bitmaps: &[u32], n: Named) -> Glyph
         ensures { result ≡ glyph_named v bitmaps.now font.now n }
     {
@@ -1091,7 +1043,7 @@ pub fn row(font: &[u16], body: usize, r: usize) -> &[u16]
     ensures { result.now ≡ row_of font.now body r }
 {
     let v = View::of(font);
-    if number_by(font, v.header) != 0 {
+    if check(font, v.header).is_err() {
         return &font[..0];
     }
     let table = bitmaps(font, v.header);
@@ -1111,13 +1063,11 @@ pub fn rows_in_all(font: &[u16], v: View) -> Extent
     let mut at = v.header.first_at();
     let mut above = v.body.ascent;
     let mut below = v.body.descent;
-    let mut k = 0;
-    while k + 1 < count {
+    for k in 0..count.saturating_sub(1) {
         at += words::word_at(font, at) as usize;
         let body = Body::of(font, at);
-        above = greater(above, body.ascent);
-        below = greater(below, body.descent);
-        k += 1;
+        above = above.max(body.ascent);
+        below = below.max(body.descent);
     }
     Extent { above, below }
 }

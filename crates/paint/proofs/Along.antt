@@ -11,18 +11,15 @@ use lib.Seq.{drop-cons}
 use mir.Syntax.{w32}
 use mir.Val.{SFits, to_z, of_z}
 use mir.Facts.{to_z-of_z}
-use Rattle.words.specs.Word.{words_of}
 use Rattle.fonts.specs.declared.View.{View}
 use Rattle.fonts.specs.declared.Step.{Step}
-use Rattle.fonts.specs.Strike.{index, codes, first_strike}
+use Rattle.fonts.specs.Strike.{index, codes, first_strike, pointers_of, widths_of}
 use Rattle.fonts.specs.Entry.{entry_at, advance_of}
 use Rattle.fonts.specs.Face.{face_from}
 use Rattle.fonts.specs.Kinds.{step_by}
 use Rattle.fonts.proofs.Steps.{step-shown}
-use Rattle.fontbytes.specs.Parts.{pointer_bytes, width_bytes, spelt}
-use Rattle.fontbytes.proofs.Spelt.{pointers-spelt, widths-spelt}
 use Rattle.paint.specs.declared.Pen.{Pen}
-use Rattle.paint.specs.Pen.{pen_at, pen_after, pen_along, spelt_steps, steps_of, Near}
+use Rattle.paint.specs.Pen.{pen_at, pen_after, pen_along, steps_in, steps_of, Near}
 
 module _ (step : ℕ → Step) (text : List ℕ) (i : ℕ) (pen : Pen) where
   along-more : i < length text
@@ -71,16 +68,14 @@ gone-near start pen i count begun short here gone =
 pub along-same : (f g : ℕ → Step) → ((c : ℕ) → f c ≡ g c) → (text : List ℕ) (pen : Pen) → pen_along f pen text ≡ pen_along g pen text
 along-same f g same text pen = λ i. pen_along (λ c. same c i) pen text
 
--- the steps by the tables in bytes are those over what a font without an index shows
-pub spelt-steps : (v : View) (bytes pointers widths : List ℕ) (dummy : ℕ) → index v.header ≡ false
-    → pointers ≡ pointer_bytes (first_strike v) bytes → widths ≡ width_bytes v.header bytes
-    → dummy ≡ advance_of v.header (spelt pointers widths (codes v.header))
-    → (c : ℕ) → spelt_steps v.header pointers widths dummy c ≡ steps_of (face_from v (words_of bytes)) c
+-- the steps by the tables are those over what a font without an index shows
+pub steps-shown : (v : View) (font pointers widths : List ℕ) (dummy : ℕ) → index v.header ≡ false
+    → pointers ≡ pointers_of (first_strike v) font → widths ≡ widths_of v.header font
+    → dummy ≡ advance_of v.header (entry_at pointers widths (codes v.header))
+    → (c : ℕ) → steps_in v.header pointers widths dummy c ≡ steps_of (face_from v font) c
 unfolding face_from
-spelt-steps v bytes pointers widths dummy single table entries moves c =
+steps-shown v font pointers widths dummy single table entries moves c =
     let h = v.header in
-    let table_is = ap words_of table ∙ pointers-spelt (first_strike v) bytes in
-    let entries-are = ap words_of entries ∙ widths-spelt h bytes in
-    ap (λ (n : ℕ). spelt_steps h pointers widths n c) moves
-    ∙ ap₂ (λ (p w : List ℕ). step_by h (entry_at p w (c - h.min)) (advance_of h (entry_at p w (codes h))) c) table_is entries-are
-    ∙ step-shown v (words_of bytes) single c
+    ap (λ (n : ℕ). steps_in h pointers widths n c) moves
+    ∙ ap₂ (λ (p w : List ℕ). step_by h (entry_at p w (c - h.min)) (advance_of h (entry_at p w (codes h))) c) table entries
+    ∙ step-shown v font single c

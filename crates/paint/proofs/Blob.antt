@@ -26,10 +26,11 @@ use Rattle.paint.specs.declared.Shape.{Shape}
 use Rattle.paint.specs.declared.Label.{Label}
 use Rattle.paint.specs.declared.Stroke.{Stroke}
 use Rattle.paint.specs.declared.Pen.{Pen}
-use Rattle.paint.specs.declared.Reply.{Reply}
-use Rattle.paint.specs.declared.Reply.TheVariants.{Done}
+use Rattle.std.specs.declared.result.Result.TheVariants.{Ok}
+use Rattle.words.specs.Refusal.{answered}
 use Rattle.paint.specs.Panel.{panel_words}
 use Rattle.paint.specs.Pen.{pen_at, pen_after, pen_along, steps_of, stroke_of, mark, mask_from, mask_at, picture_effect, label_effect}
+use Rattle.paint.specs.Label.{Reply}
 use Rattle.paint.specs.Label.{call_of, call_number, number_with, last_pen, reply_for, reply_of, reply_number, reply_pen, reply_substitutes}
 use Rattle.paint.specs.Label.{effect_with, call_effect, paint_after, number_after, measure_for}
 use Rattle.paint.proofs.Marks.{mask-none}
@@ -114,7 +115,7 @@ OneMore reply other =
 
 replies-one-more : (number fewer : ℕ) (pen last : Pen) → number ≡ 0 → fewer ≡ 0 → pen ≡ counting 1 last
     → OneMore (reply_for number pen) (reply_for fewer last)
-unfolding reply_for
+unfolding answered
 replies-one-more number fewer pen last good still counted = rw (good, still, counted) (refl, refl, refl, refl)
 
 module _ (font : List ℕ) (bare : NoBlob font) (before after : List ℕ) (c : ℕ) (absent : Absent font c) where
@@ -188,22 +189,22 @@ module _ (font : List ℕ) (bare : NoBlob font) where
 
   module _ (text : List ℕ) (absent : AllAbsent font text) where
     replies-alone : (number : ℕ) (x : ℤ) → number ≡ 0 → outside x ≡ false
-        → reply_for number (last_pen (face_of font) x text) ≡ Done (record { pen = x; substitutes = length text })
-    unfolding reply_for last_pen
+        → reply_for number (last_pen (face_of font) x text) ≡ Ok (record { pen = x; substitutes = length text })
+    unfolding answered last_pen
     replies-alone number x accepted near =
         rw (accepted, pen-alone text (pen_at x) absent)
-        (λ t. Done (record { pen = place-number x near t; substitutes = zero-add (length text) t }))
+        (λ t. Ok (record { pen = place-number x near t; substitutes = zero-add (length text) t }))
 
     -- the pen stays at x, and every code is a substitute
     pub alone-reply : (s : Shape) (lent : List ℕ) (l : Label) → call_number s lent (call_of font l text) ≡ 0
-        → reply_of s lent (call_of font l text) ≡ Done (record { pen = l.x; substitutes = length text })
+        → reply_of s lent (call_of font l text) ≡ Ok (record { pen = l.x; substitutes = length text })
     unfolding reply_of call_number number_with
     alone-reply s lent l accepted =
         let own = (stages-passed _ _ (stages-passed _ _ accepted).1).1 in
         replies-alone _ l.x accepted (good-label l (length text) own).place
 
     pub alone-measure : (number : ℕ) (x : ℤ) → number_after number x (length text) ≡ 0
-        → measure_for number font x text ≡ Done (record { pen = x; substitutes = length text })
+        → measure_for number font x text ≡ Ok (record { pen = x; substitutes = length text })
     unfolding measure_for number_after
     alone-measure number x accepted = replies-alone _ x accepted (measure-good x (length text) (stages-passed _ _ accepted).1).0
 

@@ -2,7 +2,7 @@
 use Rattle.paint.specs.Panel.{bad_sides, bad_shape, some_short, bad_panel, panel_number}
 use Rattle.paint.specs.Pen.{pen_after, pen_along, stroke_of, in_strip, dot_along, mark, mask_from, mask_at, picture_effect, label_effect}
 use Rattle.paint.specs.Sheet.{lengths, written}
-use Rattle.paint.specs.Label.{label_number, number_with, call_number, last_pen, reply_for, reply_with, reply_of, effect_with}
+use Rattle.paint.specs.Label.{label_number, number_with, call_number, last_pen, reply_with, reply_of, effect_with}
 use Rattle.paint.specs.Label.{paint_with, paint_after, join_with, measure_number, number_after, measure_with, measure_for}
 use Rattle.fontbytes.specs.File.{file_number}
 use Rattle.convert.proofs.Compute.{computing as below}
@@ -16,7 +16,7 @@ unfolding bad_sides bad_shape some_short bad_panel panel_number label_number num
 numbers = tt
 
 unfoldable pub replies : Unit {0}
-unfolding last_pen reply_for reply_with reply_of effect_with paint_with paint_after join_with measure_with measure_for
+unfolding last_pen reply_with reply_of effect_with paint_with paint_after join_with measure_with measure_for
 replies = tt
 
 unfoldable pub computing : Unit {0}

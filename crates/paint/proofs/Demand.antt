@@ -33,7 +33,8 @@ use Rattle.paint.specs.declared.Shape.{Shape}
 use Rattle.paint.specs.declared.Label.{Label}
 use Rattle.paint.specs.declared.Stroke.{Stroke}
 use Rattle.paint.specs.declared.Pen.{Pen}
-use Rattle.paint.specs.declared.Reply.TheVariants.{Done}
+use Rattle.std.specs.declared.result.Result.TheVariants.{Ok}
+use Rattle.words.specs.Refusal.{answered}
 use Rattle.paint.specs.Panel.{panel_words, strip_of}
 use Rattle.paint.specs.Label.{Call, label_number, number_with, call_number, effect_with, call_effect, paint_after}
 use Rattle.paint.specs.Label.{last_pen, reply_for, reply_of, measure_number, number_after, measure_for, measure_of}
@@ -294,16 +295,16 @@ substitutes-behind face (c ∷ text) pen =
 -- an accepted call's reply: the last pen is x and all advances, and the substitutes are the codes that the dummy stood in for
 pub reply-rule : (s : Shape) (room : ℕ) (call : Call) → 0 ≡ call_number s (room ∷ []) call
     → reply_of s (room ∷ []) call
-    ≡ Done (record {
+    ≡ Ok (record {
       pen = pen_behind (face_of call.font) call.label.x call.text;
       substitutes = substitutes_in (face_of call.font) call.text;
     })
-unfolding reply_of reply_for last_pen
+unfolding reply_of answered last_pen
 reply-rule s room call accepted =
     let own = good-label call.label (length call.text) (label-accepted s room call accepted) in
     let face = face_of call.font in
     rw (← accepted)
-    (ap₂ (λ (z : ℤ) (n : ℕ). Done (record { pen = z; substitutes = n }))
+    (ap₂ (λ (z : ℤ) (n : ℕ). Ok (record { pen = z; substitutes = n }))
     (pen-behind face call.text (pen_at call.label.x) call.label.x (sym (place-number call.label.x own.place)))
     (substitutes-behind face call.text (pen_at call.label.x) ∙ zero-add (substitutes_in face call.text)))
 

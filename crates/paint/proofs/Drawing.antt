@@ -11,14 +11,12 @@ use lib.Dec.{eqb}
 use lib.ListN.{length, length-set}
 use borrow.Author.Tests.{lt-ltb, le-ltb, eqb-true, eqb-false, ne_eqb, ltb-true}
 use Rattle.words.specs.declared.Mode.{Mode}
-use Rattle.words.specs.declared.Mode.TheVariants.{Paint, Erase, Invert}
-use Rattle.words.specs.Effect.{mode_of}
-use Rattle.words.proofs.BitLaws.{and_assoc, and-ones}
+use Rattle.words.proofs.BitLaws.{and-ones}
 use Rattle.words.proofs.Passed.{both}
 use Rattle.paint.specs.declared.Reach.{Reach}
-use Rattle.paint.specs.Reach.{window, row_marks, marked, row_drawn, rows_drawn, rows_kept, in_file, spans_in, Within}
+use Rattle.paint.specs.Reach.{window, row_marks, marked, row_drawn, nth_row, rows_drawn, in_file, spans_in, Within}
 
--- ---- where a loop over the rows of a reach is
+-- ---- where a loop over the rows of a reach is, that carries along where a row begins
 
 -- before a row: in the font, and in what is lent
 abbrev pub AtRow : Reach → ℕ → ℕ → ℕ → Type 0
@@ -30,40 +28,43 @@ at-first-row r = (no_rows r.source r.raster, no_rows r.at r.rowwords)
     no_rows : (first step : ℕ) → first ≡ first + 0 * step
     no_rows first step = sym (ap (◌+◌ first) (zero-mul step) ∙ add-zero first)
 
-module _ (r : Reach) (row from at : ℕ) (here : AtRow r row from at) where
-  pub at-next-row : AtRow r (row + 1) (from + r.raster) (at + r.rowwords)
-  at-next-row = (one-row-on from r.source r.raster here.0, one-row-on at r.at r.rowwords here.1)
-    where
-      one-row-on : (place first step : ℕ) → place ≡ first + row * step → place + step ≡ first + (row + 1) * step
-      one-row-on place first step e =
-          ap (λ (n : ℕ). n + step) e ∙ add_assoc first (row * step) step
-          ∙ ap (◌+◌ first) (sym (ap (λ (n : ℕ). n * step) (add-one row) ∙ suc-mul row step))
+pub at-next-row : (r : Reach) (row from at : ℕ) → AtRow r row from at → AtRow r (row + 1) (from + r.raster) (at + r.rowwords)
+at-next-row r row from at here = (one-row-on from r.source r.raster here.0, one-row-on at r.at r.rowwords here.1)
+  where
+    one-row-on : (place first step : ℕ) → place ≡ first + row * step → place + step ≡ first + (row + 1) * step
+    one-row-on place first step e =
+        ap (λ (n : ℕ). n + step) e ∙ add_assoc first (row * step) step
+        ∙ ap (◌+◌ first) (sym (ap (λ (n : ℕ). n * step) (add-one row) ∙ suc-mul row step))
 
-  -- while there is a row, it is inside
-  module _ (less : row < r.rows) where
-    row_before : (step : ℕ) → row * step + step ≤ r.rows * step
-    row_before step = rw (← suc-mul row step) (mul-le-mul_right step less)
+-- ---- a row that a loop over the rows of a reach still has is inside
 
-    pub row_inside : (room : ℕ) → Within r room → at + r.last < room
-    row_inside room within = omega (arith, row_before r.rowwords, within.3, here.1)
+module _ (r : Reach) (row : ℕ) (less : row < r.rows) where
+  row_before : (step : ℕ) → row * step + step ≤ r.rows * step
+  row_before step = rw (← suc-mul row step) (mul-le-mul_right step less)
 
-    pub row-source : (room : ℕ) → Within r room → from + r.raster ≤ 17196646400
-    row-source room within =
-        let all : r.rows * r.raster ≤ 16776960 = mul-le-mul {n₂ = 256} {m₂ = 65535} within.1 within.6 in
-        omega (arith, row_before r.raster, within.5, here.0)
+  -- and the one behind it not far
+  pub row-behind : (room : ℕ) → Within r room
+      → (r.source + row * r.raster + r.raster ≤ 17196646400) × (r.at + row * r.rowwords + r.rowwords ≤ 98303)
+  row-behind room within =
+      let far : r.rows * r.raster ≤ 16776960 = mul-le-mul {n₂ = 256} {m₂ = 65535} within.1 within.6 in
+      let low : r.rows * r.rowwords ≤ 32768 = mul-le-mul {n₂ = 256} {m₂ = 128} within.1 within.4 in
+      (omega (arith, row_before r.raster, within.5), omega (arith, row_before r.rowwords, within.8))
 
-    pub row_at : (room : ℕ) → Within r room → at + r.rowwords ≤ 98303
-    row_at room within =
-        let all : r.rows * r.rowwords ≤ 32768 = mul-le-mul {n₂ = 256} {m₂ = 128} within.1 within.4 in
-        omega (arith, row_before r.rowwords, within.8, here.1)
+  pub row_inside : (room : ℕ) → Within r room → r.at + row * r.rowwords + r.last < room
+  row_inside room within = omega (arith, row_before r.rowwords, within.3)
 
-    -- of a picture in the file, the words of a row and their neighbours are there
-    pub row-in-file : (words : ℕ) → in_file r words ≡ true → from + r.last + 1 < words
-    unfolding in_file
-    row-in-file words there =
-        let all : r.source + (r.rows - 1) * r.raster + r.last + 1 < words = ltb-true _ _ there in
-        let rows : row * r.raster ≤ (r.rows - 1) * r.raster = mul-le-mul_right r.raster (omega arith) in
-        omega (arith, here.0)
+  pub row-source : (room : ℕ) → Within r room → r.source + row * r.raster ≤ 17196646400
+  row-source room within =
+      let all : r.rows * r.raster ≤ 16776960 = mul-le-mul {n₂ = 256} {m₂ = 65535} within.1 within.6 in
+      omega (arith, row_before r.raster, within.5)
+
+  -- of a picture in the file, the words of a row and their neighbours are there
+  pub row-in-file : (words : ℕ) → in_file r words ≡ true → r.source + row * r.raster + r.last + 1 < words
+  unfolding in_file
+  row-in-file words there =
+      let all : r.source + (r.rows - 1) * r.raster + r.last + 1 < words = ltb-true _ _ there in
+      let rows : row * r.raster ≤ (r.rows - 1) * r.raster = mul-le-mul_right r.raster (omega arith) in
+      omega arith
 
 pub nothing-drawn : (font : List ℕ) (r : Reach) (mode : Mode) (lent : List ℕ) → lent ≡ rows_drawn font r mode 0 lent
 unfolding rows_drawn
@@ -125,78 +126,80 @@ module _ (font : List ℕ) (r : Reach) (mode : Mode) where
         ap (λ (n : ℕ). bit_and n r.tail) (sym (ap (bit_and dots) all ∙ and-ones dots small)) ∙ marks-last there
 
   pub marks-narrow : (from dots : ℕ) → dots ≡ window font from r.shift → r.last ≡ 0
-      → bit_and dots (bit_and r.head r.tail) ≡ row_marks font r from 0
+      → bit_and (bit_and dots r.head) r.tail ≡ row_marks font r from 0
   marks-narrow from dots read alone =
-      sym (and_assoc dots r.head r.tail)
-      ∙ marks-last from 0 r.head dots refl (read ∙ ap (λ (i : ℕ). window font i r.shift) (sym (add-zero from))) (sym alone)
+      marks-last from 0 r.head dots refl (read ∙ ap (λ (i : ℕ). window font i r.shift) (sym (add-zero from))) (sym alone)
 
-  -- ---- a turn of a loop over the words, and over the rows
+-- ---- a turn of a loop over the words, and over the rows: on what is marked where t is true, and else on what stays. So they serve flip
+-- with true, and keep with whether it settles
 
-  pub word_more : (from at w marks : ℕ) (now next lent : List ℕ) → now ≡ row_drawn font r mode from at w lent
+pub stays : (t : Bool) (lent : List ℕ) → lent ≡ cond t lent lent
+stays true lent = refl
+stays false lent = refl
+
+-- one thing done after another
+then : (t : Bool) (one other : List ℕ → List ℕ) (lent now next : List ℕ) → now ≡ cond t (one lent) lent → next ≡ cond t (other now) now
+    → next ≡ cond t (other (one lent)) lent
+then true one other lent now next first second = second ∙ ap other first
+then false one other lent now next first second = second ∙ first
+
+module _ (t : Bool) (font : List ℕ) (r : Reach) (mode : Mode) where
+  pub nothing-yet : (lent : List ℕ) → lent ≡ cond t (rows_drawn font r mode 0 lent) lent
+  unfolding rows_drawn
+  nothing-yet lent = stays t lent
+
+  pub no-word-yet : (from at : ℕ) (lent : List ℕ) → lent ≡ cond t (row_drawn font r mode from at 0 lent) lent
+  unfolding row_drawn
+  no-word-yet from at lent = stays t lent
+
+  pub word_more : (from at w marks : ℕ) (now next lent : List ℕ) → now ≡ cond t (row_drawn font r mode from at w lent) lent
       → marks ≡ row_marks font r from w
-      → next ≡ marked mode marks (at + w) now
-      → next ≡ row_drawn font r mode from at (w + 1) lent
+      → next ≡ cond t (marked mode marks (at + w) now) now
+      → next ≡ cond t (row_drawn font r mode from at (w + 1) lent) lent
   unfolding row_drawn
   word_more from at w marks now next lent same these drew =
-      drew ∙ ap₂ (λ (m : ℕ). marked mode m (at + w)) these same ∙ ap (λ (n : ℕ). row_drawn font r mode from at n lent) (sym (add-one w))
+      then t (row_drawn font r mode from at w) (marked mode (row_marks font r from w) (at + w)) lent now next same
+      (drew ∙ ap (λ (m : ℕ). cond t (marked mode m (at + w) now) now) these)
+      ∙ ap (λ (n : ℕ). cond t (row_drawn font r mode from at n lent) lent) (sym (add-one w))
 
-  pub row_more : (from at row : ℕ) (now next lent : List ℕ) → AtRow r row from at → now ≡ rows_drawn font r mode row lent
-      → next ≡ row_drawn font r mode from at (r.last + 1) now
-      → next ≡ rows_drawn font r mode (row + 1) lent
+  pub row_more : (row : ℕ) (now next lent : List ℕ) → now ≡ cond t (rows_drawn font r mode row lent) lent
+      → next ≡ cond t (nth_row font r mode row now) now
+      → next ≡ cond t (rows_drawn font r mode (row + 1) lent) lent
   unfolding rows_drawn
-  row_more from at row now next lent here same drew =
+  row_more row now next lent same drew =
+      then t (rows_drawn font r mode row) (nth_row font r mode row) lent now next same drew
+      ∙ ap (λ (n : ℕ). cond t (rows_drawn font r mode n lent) lent) (sym (add-one row))
+
+  -- a whole row, by where it begins
+  pub row-whole : (row from at n : ℕ) (next lent : List ℕ) → from ≡ r.source + row * r.raster → at ≡ r.at + row * r.rowwords
+      → n ≡ r.last → next ≡ cond t (row_drawn font r mode from at (n + 1) lent) lent → next ≡ cond t (nth_row font r mode row lent) lent
+  row-whole row from at n next lent source place there drew =
       drew
-      ∙ ap (λ (n : ℕ). row_drawn font r mode from at n now) (add-one r.last)
-      ∙ (λ i. row_drawn font r mode (here.0 i) (here.1 i) (suc r.last) (same i))
-      ∙ ap (λ (n : ℕ). rows_drawn font r mode n lent) (sym (add-one row))
+      ∙ (λ i. cond t (row_drawn font r mode (source i) (place i) (there i + 1) lent) lent)
+      ∙ ap (λ (m : ℕ). cond t (row_drawn font r mode (r.source + row * r.raster) (r.at + row * r.rowwords) m lent) lent) (add-one r.last)
 
   -- a row of one word
-  pub narrow-more : (from at row dots : ℕ) (now next lent : List ℕ) → AtRow r row from at → now ≡ rows_drawn font r mode row lent
-      → dots ≡ window font from r.shift → r.last ≡ 0 → next ≡ marked mode (bit_and dots (bit_and r.head r.tail)) at now
-      → next ≡ rows_drawn font r mode (row + 1) lent
-  unfolding row_drawn
-  narrow-more from at row dots now next lent here same read alone drew =
-      let marks = bit_and dots (bit_and r.head r.tail) in
-      let first = drew ∙ ap (λ (i : ℕ). marked mode marks i now) (sym (add-zero at)) in
-      let one = word_more from at 0 marks now next now refl (marks-narrow from dots read alone) first in
-      row_more from at row now next lent here same (one ∙ ap (λ (n : ℕ). row_drawn font r mode from at (n + 1) now) (sym alone))
+  pub narrow-row : (row from at dots : ℕ) (next lent : List ℕ) → from ≡ r.source + row * r.raster → at ≡ r.at + row * r.rowwords
+      → r.last ≡ 0 → dots ≡ window font from r.shift
+      → next ≡ cond t (marked mode (bit_and (bit_and dots r.head) r.tail) at lent) lent
+      → next ≡ cond t (nth_row font r mode row lent) lent
+  narrow-row row from at dots next lent source place alone read drew =
+      let marks = bit_and (bit_and dots r.head) r.tail in
+      let first = drew ∙ ap (λ (i : ℕ). cond t (marked mode marks i lent) lent) (sym (add-zero at)) in
+      row-whole row from at 0 next lent source place (sym alone)
+      (word_more from at 0 marks lent next lent (no-word-yet from at lent) (marks-narrow font r mode from dots read alone) first)
 
   -- a row of two words
-  pub two-drawn : (from at one two : ℕ) (lent now next : List ℕ) → one ≡ window font from r.shift
-      → two ≡ window font (from + 1) r.shift → r.last ≡ 1
-      → now ≡ marked mode (bit_and one r.head) at lent → next ≡ marked mode (bit_and two r.tail) (at + 1) now
-      → next ≡ row_drawn font r mode from at (r.last + 1) lent
-  unfolding row_drawn
-  two-drawn from at one two lent now next read_one read-two pair drew-one drew-two =
+  pub row-of-two : (row from at one two : ℕ) (now next lent : List ℕ) → from ≡ r.source + row * r.raster → at ≡ r.at + row * r.rowwords
+      → r.last ≡ 1 → one ≡ window font from r.shift → two ≡ window font (from + 1) r.shift
+      → now ≡ cond t (marked mode (bit_and one r.head) at lent) lent
+      → next ≡ cond t (marked mode (bit_and two r.tail) (at + 1) now) now
+      → next ≡ cond t (nth_row font r mode row lent) lent
+  row-of-two row from at one two now next lent source place pair read_one read-two drew-one drew-two =
       let read = read_one ∙ ap (λ (i : ℕ). window font i r.shift) (sym (add-zero from)) in
       let less : 0 < r.last = omega arith in
-      let first = drew-one ∙ ap (λ (i : ℕ). marked mode (bit_and one r.head) i lent) (sym (add-zero at)) in
-      let begun = word_more from at 0 _ lent now lent refl (marks-before from 0 r.head one refl read less) first in
-      let last = marks-wide from 1 0xFFFF two (whole-mask r 0) read-two (sym pair) (omega arith) in
-      word_more from at 1 _ now next lent begun last drew-two
-      ∙ ap (λ (n : ℕ). row_drawn font r mode from at (n + 1) lent) (sym pair)
-
-  pub nothing-kept : (lent : List ℕ) → r.rows ≡ 0 → lent ≡ rows_kept font r mode lent
-  unfolding rows_kept
-  nothing-kept lent none = by_mode mode
-    where
-      erased : lent ≡ rows_drawn font r Erase r.rows lent
-      erased = nothing-drawn font r Erase lent ∙ ap (λ (n : ℕ). rows_drawn font r Erase n lent) (sym none)
-
-      by_mode : (m : Mode) → lent ≡ rows_kept font r m lent
-      by_mode Paint = erased
-      by_mode Erase = erased
-      by_mode Invert = refl
-
--- what a mode does to keep, by its number: Paint and Erase clear, and Invert leaves it
-module _ (font : List ℕ) (r : Reach) (lent : List ℕ) where
-  pub keep_cleared : (number : ℕ) (now : List ℕ) → number < 2 → now ≡ rows_drawn font r (mode_of 1) r.rows lent
-      → now ≡ rows_kept font r (mode_of number) lent
-  unfolding mode_of rows_kept
-  keep_cleared zero now less drew = drew
-  keep_cleared (suc zero) now less drew = drew
-  keep_cleared (suc (suc n)) now less drew = absurd (omega arith)
-
-  pub keep-stays : (number : ℕ) → 2 ≤ number → lent ≡ rows_kept font r (mode_of number) lent
-  unfolding mode_of rows_kept
-  keep-stays number past = rw (ne_eqb number 0 (λ e. absurd (omega arith)), ne_eqb number 1 (λ e. absurd (omega arith)))
+      let first = drew-one ∙ ap (λ (i : ℕ). cond t (marked mode (bit_and one r.head) i lent) lent) (sym (add-zero at)) in
+      let begun = word_more from at 0 _ lent now lent (no-word-yet from at lent) (marks-before font r mode from 0 r.head one refl read less)
+      first in
+      let last = marks-wide font r mode from 1 0xFFFF two (whole-mask r 0) read-two (sym pair) (omega arith) in
+      row-whole row from at 1 next lent source place (sym pair) (word_more from at 1 _ now next lent begun last drew-two)

@@ -1,14 +1,11 @@
 -- What a text clears of the keep of a sheet: by Paint and Erase what Erase would clear, and by Invert nothing.
-use Prim.Native.Nat.{ℕ, ◌<◌, ◌≤◌}
+use Prim.Native.Nat.{ℕ}
 use mathlib.Core.Path.{◌≡◌, refl, sym, ap, ap₂, ◌∙◌}
-use mathlib.Core.Bool.{Bool, true, false, cond}
 use mathlib.Core.List.{List, [], ◌∷◌}
 use native.Mathlib.Omega.{arith}
-use lib.Dec.{eqb}
-use borrow.Author.Tests.{ne_eqb, eq-eqb, eqb-false}
 use Rattle.words.specs.declared.Mode.{Mode}
-use Rattle.words.specs.declared.Mode.TheVariants.{Paint, Erase, Invert}
-use Rattle.words.specs.Effect.{identity, erase_of, effect_of, mode_of, join_of, clearing, cleared}
+use Rattle.words.specs.declared.Mode.TheVariants.{Invert}
+use Rattle.words.specs.Effect.{identity, erase_of, effect_of, join_of, clearing, cleared}
 use Rattle.words.proofs.Clearing.{clears}
 use Rattle.words.proofs.Effects.{identity-join}
 use Rattle.words.proofs.Altering.{AllWords, altered-idle}
@@ -18,31 +15,17 @@ use Rattle.paint.specs.declared.Stroke.{Stroke}
 use Rattle.paint.specs.declared.Pen.{Pen}
 use Rattle.paint.specs.Pen.{Drawable, pen_after, erasing, stroke_words, on_panel, mark, mask_from, mask_at, picture_effect, label_effect}
 
--- a number over 1 is Invert's, and one up to it is not
-pub inverts : (n : ℕ) → 1 < n → mode_of n ≡ Invert
-unfolding mode_of
-inverts n over = rw (ne_eqb n 0 (λ e. omega arith), ne_eqb n 1 (λ e. omega arith))
-
-clears-alike : (n mask : ℕ) → n ≤ 1 → clearing (effect_of (mode_of n) mask) ≡ erase_of mask
-unfolding mode_of
-clears-alike n mask few = by_zero (eqb n 0) refl
-  where
-    by_zero : (t : Bool) → eqb n 0 ≡ t → clearing (effect_of (cond t Paint (cond (eqb n 1) Erase Invert)) mask) ≡ erase_of mask
-    by_zero true e = refl
-    by_zero false e = let some = ne-one n few e in rw some
-      where
-        ne-one : (n : ℕ) → n ≤ 1 → eqb n 0 ≡ false → eqb n 1 ≡ true
-        ne-one n few e = eq-eqb n 1 (let other = eqb-false n 0 e in omega (arith, other))
+-- a mode clears as Erase does
+abbrev pub Clears : Mode → Type 0
+Clears mode = (mask : ℕ) → clearing (effect_of mode mask) ≡ erase_of mask
 
 module _ (face : Face) (k : Stroke) (i : ℕ) where
   -- by Paint and Erase
-  module _ (n : ℕ) (few : n ≤ 1) (mode : mode_of n ≡ k.mode) where
+  module _ (settles : Clears k.mode) where
     picture-cleared : (pen : Pen) (g : Glyph)
         → clearing (picture_effect face.dot k pen g i) ≡ picture_effect face.dot (erasing k) pen g i
     unfolding picture_effect erasing mask_at mask_from mark
-    picture-cleared pen g =
-        ap (λ (m : Mode). clearing (effect_of m (mask_at face.dot k pen g i))) (sym mode)
-        ∙ clears-alike n (mask_at face.dot k pen g i) few
+    picture-cleared pen g = settles (mask_at face.dot k pen g i)
 
     pub text-cleared : (text : List ℕ) (pen : Pen) → clearing (label_effect face k pen text i) ≡ label_effect face (erasing k) pen text i
     unfolding label_effect
@@ -68,10 +51,10 @@ module _ (face : Face) (k : Stroke) (i : ℕ) where
         ∙ identity-join identity (omega arith, omega arith)
 
 module _ (face : Face) (k : Stroke) (pen : Pen) (text lent : List ℕ) where
-  pub keep-erased : (n : ℕ) → n ≤ 1 → mode_of n ≡ k.mode
+  pub keep-erased : Clears k.mode
       → on_panel (label_effect face (erasing k) pen text) (erasing k) lent ≡ on_panel (cleared (label_effect face k pen text)) k lent
   unfolding erasing
-  keep-erased n few mode = λ t. on_panel (λ i. sym (text-cleared face k i n few mode text pen) t) k lent
+  keep-erased settles = λ t. on_panel (λ i. sym (text-cleared face k i settles text pen) t) k lent
 
   pub keep-stays : k.mode ≡ Invert → AllWords lent → lent ≡ on_panel (cleared (label_effect face k pen text)) k lent
   keep-stays mode words =

@@ -2,6 +2,7 @@ pub mod Compute
 pub mod Along
 pub mod Replies
 pub mod Telling
+pub mod Texts
 pub mod Marks
 pub mod Drawing
 pub mod Reaches

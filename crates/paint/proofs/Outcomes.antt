@@ -4,12 +4,14 @@ use contract.Lifetimes.{Lfts}
 use denote.Triple.Clauses.{AtExit}
 use borrow.Fn.Kinds.{Dens, res_t, ended_of}
 use Rattle.words.proofs.Outcomes.{OneReply}
+use Rattle.fonts.proofs.Readings.{same-answer}
 use Rattle.paint.proofs.Shape.panel_words as panel-words
 use Rattle.paint.proofs.Strip.of as strip-of
 use Rattle.paint.proofs.bad_panel as bad-panel
 use Rattle.paint.proofs.from_column as from-column
 use Rattle.paint.proofs.upto_column as upto-column
-use Rattle.paint.proofs.number_with as number-with
+use Rattle.paint.proofs.check_panel as check-panel
+use Rattle.paint.proofs.check_with as check-with
 use Rattle.paint.proofs.paint_row as paint-row
 use Rattle.paint.proofs.measure as measure
 use Rattle.paint.proofs.measure_bytes as measure-bytes
@@ -29,8 +31,11 @@ from-column-one κs a r o e e' p q = p ∙ sym q
 pub upto-column-one : OneReply 0 upto-column.Kinds.ps upto-column.Kinds.r upto-column.Reads.Post
 upto-column-one κs a r o e e' p q = p ∙ sym q
 
-pub number-with-one : OneReply 0 number-with.Kinds.ps number-with.Kinds.r number-with.Reads.Post
-number-with-one κs a r o e e' p q = p ∙ sym q
+pub check-panel-one : OneReply 0 check-panel.Kinds.ps check-panel.Kinds.r check-panel.Reads.Post
+check-panel-one κs a r o e e' p q = same-answer r o (p ∙ sym q)
+
+pub check-with-one : OneReply 0 check-with.Kinds.ps check-with.Kinds.r check-with.Reads.Post
+check-with-one κs a r o e e' p q = same-answer r o (p ∙ sym q)
 
 pub bad-panel-one : OneReply 0 bad-panel.Kinds.ps bad-panel.Kinds.r bad-panel.Reads.Post
 bad-panel-one κs a r o e e' p q = p ∙ sym q

@@ -1,15 +1,12 @@
 -- Where a picture settles, its dots are no longer kept: keep changes as by Erase. Where it does not, keep stays.
 use Prim.Native.Nat.{ℕ, ◌≤◌}
 use mathlib.Core.Path.{◌≡◌, refl, sym, ap, ◌∙◌}
-use mathlib.Core.Bool.{Bool, true, false}
+use mathlib.Core.Bool.{Bool, true, false, cond}
 use mathlib.Core.List.{List}
-use native.Mathlib.Omega.{arith}
-use lib.Dec.{ltb}
 use lib.ListN.{length}
-use borrow.Author.Tests.{ltb-true, ltb-false}
 use Rattle.words.specs.declared.Effect.{Effect}
-use Rattle.words.specs.declared.Mode.TheVariants.{Erase}
-use Rattle.words.specs.Effect.{mode_of, cleared}
+use Rattle.words.specs.declared.Mode.TheVariants.{Erase, Invert}
+use Rattle.words.specs.Effect.{cleared}
 use Rattle.words.proofs.Altering.{AllWords, altered-length}
 use Rattle.fonts.specs.declared.Glyph.{Glyph}
 use Rattle.fonts.specs.Face.{Face, dot_of}
@@ -17,9 +14,10 @@ use Rattle.paint.specs.declared.Stroke.{Stroke}
 use Rattle.paint.specs.declared.Pen.{Pen}
 use Rattle.paint.specs.Pen.{Drawable, erasing, stroke_words, on_panel, kept_if, picture_effect, label_effect}
 use Rattle.paint.specs.Reach.{shared, reach_over, reach_of, rows_drawn}
-use Rattle.paint.proofs.Drawing.{nothing-drawn}
+use Rattle.paint.specs.declared.Reach.{Reach}
+use Rattle.paint.proofs.Drawing.{nothing-drawn, stays}
 use Rattle.paint.proofs.Reaching.{flip-drawn}
-use Rattle.paint.proofs.Keeping.{inverts, keep-erased, keep-stays, erasing-drawable}
+use Rattle.paint.proofs.Keeping.{Clears, keep-erased, keep-stays, erasing-drawable}
 
 -- both cases
 pub kept-if : (t : Bool) (effect : ℕ → Effect) (k : Stroke) (lent after : List ℕ)
@@ -57,32 +55,44 @@ module _ (font : List ℕ) (k : Stroke) (pen : Pen) (g : Glyph) (all : AllWords 
       (λ t. rows_drawn font (sym (reach-erasing g k pen) t) Erase (sym (reach-erasing g k pen) t).rows lent)
       ∙ flip-drawn font (erasing k) pen g all behind lent words (erasing-drawable k (erasing k) (length lent) refl drawable)
 
-  -- where it reaches no row nothing changes
-  module _ (none : (reach_of g k pen).rows ≡ 0) where
-    pub flip-none : lent ≡ on_panel (picture_effect (dot_of font) k pen g) k lent
-    flip-none =
-        nothing-drawn font (reach_of g k pen) k.mode lent
-        ∙ ap (λ (n : ℕ). rows_drawn font (reach_of g k pen) k.mode n lent) (sym none)
-        ∙ flip-drawn font k pen g all behind lent words drawable
+-- ---- what the loops draw of a picture's reach is the picture, on flip and on keep
 
-    pub keep-none : lent ≡ on_panel (picture_effect (dot_of font) (erasing k) pen g) k lent
-    keep-none =
-        nothing-drawn font (reach_of g k pen) Erase lent
-        ∙ ap (λ (n : ℕ). rows_drawn font (reach_of g k pen) Erase n lent) (sym none)
-        ∙ settled
+module _ (font : List ℕ) (k : Stroke) (pen : Pen) (g : Glyph) (all : AllWords font) (behind : 1 ≤ g.bitmap)
+    (r : Reach) (is : r ≡ reach_of g k pen) where
+  module _ (lent : List ℕ) (words : AllWords lent) (drawable : Drawable k (length lent)) where
+    pub flip-marked : (after : List ℕ) → after ≡ rows_drawn font r k.mode r.rows lent
+        → after ≡ on_panel (picture_effect (dot_of font) k pen g) k lent
+    flip-marked after drew =
+        drew ∙ ap (λ (r : Reach). rows_drawn font r k.mode r.rows lent) is ∙ flip-drawn font k pen g all behind lent words drawable
+
+    -- where it reaches no row nothing changes
+    pub flip-none : r.rows ≡ 0 → lent ≡ on_panel (picture_effect (dot_of font) k pen g) k lent
+    flip-none none =
+        flip-marked lent
+        (nothing-drawn font r k.mode lent ∙ ap (λ (n : ℕ). rows_drawn font r k.mode n lent) (sym none))
+
+  module _ (t : Bool) (lent : List ℕ) (words : AllWords lent) (drawable : t ≡ true → Drawable k (length lent)) where
+    pub keep-marked : (after : List ℕ) → after ≡ cond t (rows_drawn font r Erase r.rows lent) lent
+        → after ≡ kept_if t (picture_effect (dot_of font) (erasing k) pen g) k lent
+    keep-marked after drew =
+        kept-if t _ k lent after
+        (λ settles. drew ∙ ap (λ (t : Bool). cond t (rows_drawn font r Erase r.rows lent) lent) settles
+        ∙ ap (λ (r : Reach). rows_drawn font r Erase r.rows lent) is ∙ settled font k pen g all behind lent words (drawable settles))
+        (λ not. drew ∙ ap (λ (t : Bool). cond t (rows_drawn font r Erase r.rows lent) lent) not)
+
+    pub keep-none : r.rows ≡ 0 → lent ≡ kept_if t (picture_effect (dot_of font) (erasing k) pen g) k lent
+    keep-none none =
+        keep-marked lent
+        (stays t lent
+        ∙ ap (λ (drawn : List ℕ). cond t drawn lent)
+        (nothing-drawn font r Erase lent ∙ ap (λ (n : ℕ). rows_drawn font r Erase n lent) (sym none)))
 
 -- a text that settles by Paint and by Erase, and not by Invert: what its effect clears is no longer kept
-pub kept-by-mode : (face : Face) (k : Stroke) (pen : Pen) (text lent after : List ℕ) (n : ℕ) → mode_of n ≡ k.mode → AllWords lent
-    → after ≡ kept_if (ltb n 2) (label_effect face (erasing k) pen text) k lent
-    → after ≡ on_panel (cleared (label_effect face k pen text)) k lent
-unfolding erasing
-kept-by-mode face k pen text lent after n mode words kept = by_mode (ltb n 2) refl
-  where
-    by_mode : (t : Bool) → ltb n 2 ≡ t → after ≡ on_panel (cleared (label_effect face k pen text)) k lent
-    by_mode true few =
-        kept-erased (ltb n 2) _ k lent after kept few
-        ∙ keep-erased face k pen text lent n (let below = ltb-true n 2 few in omega (arith, below)) mode
-    by_mode false over =
-        let above = ltb-false n 2 over in
-        kept-stays (ltb n 2) _ k lent after kept over
-        ∙ keep-stays face k pen text lent (sym mode ∙ inverts n (omega (arith, above))) words
+module _ (face : Face) (k : Stroke) (pen : Pen) (text lent after : List ℕ) where
+  pub kept-by-clearing : Clears k.mode → after ≡ on_panel (label_effect face (erasing k) pen text) k lent
+      → after ≡ on_panel (cleared (label_effect face k pen text)) k lent
+  unfolding erasing
+  kept-by-clearing settles kept = kept ∙ keep-erased face k pen text lent settles
+
+  pub kept-by-invert : k.mode ≡ Invert → AllWords lent → after ≡ lent → after ≡ on_panel (cleared (label_effect face k pen text)) k lent
+  kept-by-invert inverts words kept = kept ∙ keep-stays face k pen text lent inverts words

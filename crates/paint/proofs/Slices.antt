@@ -38,6 +38,15 @@ pub passed-alone : (s : Shape) (n : ℕ) → bad_panel s (n ∷ []) ≡ false �
 unfolding panel_number first_of
 passed-alone s n good = one-slice (bad_panel s (n ∷ [])) good
 
+-- what an accepted number promises
+pub good-number : (s : Shape) (lent : List ℕ) → 0 ≡ panel_number s lent → bad_panel s lent ≡ false
+unfolding panel_number first_of
+good-number s lent = one-rule (bad_panel s lent)
+  where
+    one-rule : (t : Bool) → ◌≡◌ {A = ℕ} 0 (cond t 8 0) → t ≡ false
+    one-rule true e = absurd (omega arith)
+    one-rule false e = refl
+
 -- the shorter of two slices decides for both
 short-or : (a b n : ℕ) (s t : Bool) → ltb a n ≡ s → ltb b n ≡ t → ltb (min a b) n ≡ (s || t)
 short-or a b n true t p q = let less = ltb-true a n p in lt-ltb (min a b) n (omega arith)

@@ -3,7 +3,10 @@
 use Rattle.std.specs.Prelude.{ℕ, ◌+◌, ◌*◌, ◌≡◌, cond, ◌||◌, ◌&&◌, List, [], ◌∷◌, ltb, leb, eqb, ℤ, pos, length}
 use Rattle.words.specs.declared.Effect.{Effect}
 use Rattle.words.specs.Word.{words_of}
-use Rattle.words.specs.Refusal.{first_of, or_else}
+use Rattle.std.specs.declared.result.Result.{Result}
+use Rattle.std.specs.declared.result.Result.TheVariants.{Ok, Err}
+use Rattle.words.specs.declared.refusal.Refusal.{Refusal}
+use Rattle.words.specs.Refusal.{first_of, or_else, returned, answered}
 use Rattle.words.specs.Place.{outside, number_at}
 use Rattle.words.specs.Effect.{altered}
 use Rattle.fonts.specs.Reading.{font_number}
@@ -13,8 +16,6 @@ use Rattle.paint.specs.declared.Shape.{Shape}
 use Rattle.paint.specs.declared.Label.{Label}
 use Rattle.paint.specs.declared.Pen.{Pen}
 use Rattle.paint.specs.declared.Finish.{Finish}
-use Rattle.paint.specs.declared.Reply.{Reply}
-use Rattle.paint.specs.declared.Reply.TheVariants.{Done, Refused}
 use Rattle.paint.specs.Panel.{panel_words, panel_number, one_row}
 use Rattle.paint.specs.Pen.{pen_at, pen_along, steps_of, stroke_of, label_effect}
 use Rattle.paint.specs.Sheet.{Sheet, lengths, joined}
@@ -55,8 +56,12 @@ last_pen face x text = pen_along (steps_of face) (pen_at x) text
 abbrev pub finish_of : Pen → Finish
 finish_of pen = record { pen = number_at pen.place; substitutes = pen.substitutes }
 
-unfoldable pub reply_for : ℕ → Pen → Reply
-reply_for number pen = cond (eqb number 0) (Done (finish_of pen)) (Refused number)
+-- what painting, gathering and measuring answer
+abbrev pub Reply : Type 0
+Reply = Result Finish Refusal
+
+abbrev pub reply_for : ℕ → Pen → Reply
+reply_for number pen = answered number (finish_of pen)
 
 unfoldable pub reply_with : Face → Shape → List ℕ → Label → List ℕ → Reply
 reply_with face s lent l text = reply_for (number_with s lent l (length text)) (last_pen face l.x text)
@@ -66,16 +71,15 @@ reply_of s lent call = reply_for (call_number s lent call) (last_pen (face_of ca
 
 -- "returns its number, pen 0, substitutes 0": the paper's number and values for each answer
 abbrev pub reply_number : Reply → ℕ
-reply_number (Done finish) = 0
-reply_number (Refused number) = number
+reply_number reply = returned reply
 
 abbrev pub reply_pen : Reply → ℤ
-reply_pen (Done finish) = finish.pen
-reply_pen (Refused number) = pos 0
+reply_pen (Ok finish) = finish.pen
+reply_pen (Err refusal) = pos 0
 
 abbrev pub reply_substitutes : Reply → ℕ
-reply_substitutes (Done finish) = finish.substitutes
-reply_substitutes (Refused number) = 0
+reply_substitutes (Ok finish) = finish.substitutes
+reply_substitutes (Err refusal) = 0
 
 -- so what a reply tells: the number; beside 0 the pen and the substitutes, beside any other zeros
 abbrev pub Tells : Reply → ℕ → Pen → Type 0

@@ -10,7 +10,7 @@ use Rattle.fonts.specs.declared.Step.{Step}
 use Rattle.fonts.specs.declared.Header.{Header}
 use Rattle.fonts.specs.Face.{Face, step_of}
 use Rattle.fonts.specs.Kinds.{step_by}
-use Rattle.fontbytes.specs.Parts.{spelt}
+use Rattle.fonts.specs.Entry.{entry_at}
 use Rattle.paint.specs.declared.Shape.{Shape}
 use Rattle.paint.specs.declared.Strip.{Strip}
 use Rattle.paint.specs.declared.Label.{Label}
@@ -35,9 +35,9 @@ unfoldable pub pen_along : (ℕ → Step) → Pen → List ℕ → Pen
 pen_along step pen [] = pen
 pen_along step pen (c ∷ text) = pen_along step (pen_after pen (step c)) text
 
--- the step over each code, by the tables of a font in bytes and the dummy's advance
-abbrev pub spelt_steps : Header → List ℕ → List ℕ → ℕ → ℕ → Step
-spelt_steps h pointers widths dummy c = step_by h (spelt pointers widths (c - h.min)) dummy c
+-- the step over each code, by the tables of a font without an index and the dummy's advance
+abbrev pub steps_in : Header → List ℕ → List ℕ → ℕ → ℕ → Step
+steps_in h pointers widths dummy c = step_by h (entry_at pointers widths (c - h.min)) dummy c
 
 -- the step over what a face shows for a code
 abbrev pub steps_of : Face → ℕ → Step

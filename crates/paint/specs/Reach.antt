@@ -87,11 +87,14 @@ unfoldable pub row_drawn : List ℕ → Reach → Mode → ℕ → ℕ → ℕ �
 row_drawn font r mode from at zero lent = lent
 row_drawn font r mode from at (suc n) lent = marked mode (row_marks font r from n) (at + n) (row_drawn font r mode from at n lent)
 
--- and with those of n rows
+-- with those of row n of the picture
+abbrev pub nth_row : List ℕ → Reach → Mode → ℕ → List ℕ → List ℕ
+nth_row font r mode n lent = row_drawn font r mode (r.source + n * r.raster) (r.at + n * r.rowwords) (suc r.last) lent
+
+-- and with those of its first n rows
 unfoldable pub rows_drawn : List ℕ → Reach → Mode → ℕ → List ℕ → List ℕ
 rows_drawn font r mode zero lent = lent
-rows_drawn font r mode (suc n) lent =
-    row_drawn font r mode (r.source + n * r.raster) (r.at + n * r.rowwords) (suc r.last) (rows_drawn font r mode n lent)
+rows_drawn font r mode (suc n) lent = nth_row font r mode n (rows_drawn font r mode n lent)
 
 -- what joining it does to the keep of a sheet: what is painted or erased is no longer kept
 unfoldable pub rows_kept : List ℕ → Reach → Mode → List ℕ → List ℕ

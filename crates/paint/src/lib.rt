@@ -1,28 +1,30 @@
 // Measuring labels, painting them into the strips of a panel, and joining them onto sheets.
 #![tactic(auto)]
 
-ghost use Rattle.std.specs.Prelude.{◌≡◌, [], ◌∷◌, true, false, cond, ◌+◌, ◌-◌, ◌*◌, ◌≤◌, ◌<◌, min, max, eqb, ltb, length};
+ghost use Rattle.std.specs.Prelude.{◌≡◌, [], ◌∷◌, Bool, true, false, cond, ◌+◌, ◌-◌, ◌*◌, ◌≤◌, ◌<◌, min, max, eqb, ltb, length};
 ghost use Rattle.words.specs.Place.{number_at};
 ghost use Rattle.words.specs.Word.{words_of};
-ghost use Rattle.words.specs.Effect.{effect_of, mode_of, apply_to, cleared};
+ghost use Rattle.words.specs.Refusal.{returned};
+ghost use Rattle.words.specs.Effect.{cleared};
+ghost use Rattle.words.specs.declared.Mode.{Mode};
+ghost use Rattle.words.specs.declared.Mode.TheVariants.{Paint, Erase, Invert};
 ghost use Rattle.fonts.specs.Strike.{index};
 ghost use Rattle.fonts.specs.Reading.{font_number};
 ghost use Rattle.fonts.specs.Face.{dot_of, face_from};
 ghost use Rattle.fontbytes.specs.File.{file_number};
-ghost use Rattle.paint.specs.Panel.{panel_words, strip_of, bad_shape, bad_panel};
-ghost use Rattle.paint.specs.Pen.{pen_at, pen_after, pen_along, spelt_steps, steps_of, farthest, Starting, Near};
+ghost use Rattle.paint.specs.Panel.{panel_words, strip_of, bad_shape, bad_panel, panel_number};
+ghost use Rattle.paint.specs.Pen.{pen_at, pen_after, pen_along, steps_in, steps_of, farthest, Starting, Near};
 ghost use Rattle.paint.specs.Pen.{stroke_of, stroke_in_row, erasing, stroke_words, Drawable};
 ghost use Rattle.paint.specs.Pen.{on_panel, kept_if, picture_effect, label_effect, erased_by};
 ghost use Rattle.paint.specs.Reach.{shared, from_column, upto_column, reach_over, reach_of, in_file, spans_in, two_words, window};
-ghost use Rattle.paint.specs.Reach.{marked, row_drawn, rows_drawn, rows_kept, Nearby, Within};
+ghost use Rattle.paint.specs.Reach.{marked, row_drawn, nth_row, rows_drawn, Nearby, Within};
 ghost use Rattle.paint.specs.Sheet.{sheet_of, lengths_of};
-ghost use Rattle.paint.specs.declared.Reply.TheVariants.{Done};
 ghost use Rattle.paint.specs.Label.{call_of, label_number, number_with, last_pen, finish_of, reply_with, reply_of};
 ghost use Rattle.paint.specs.Label.{paint_with, row_with, paint_after, join_with, measure_number, measure_with, measure_of, measure_file};
 ghost use Rattle.paint.specs.Label.{TellsWith, TellsCall, TellsMeasure};
 
-use fonts::{Glyph, Header, Named, Reading, Step, View};
-use words::{Effect, Mode};
+use fonts::{Glyph, Header, Named, Step, View};
+use words::{Effect, Mode, Refusal, Words};
 
 // The size of a panel: words per row, rows, and the columns of a strip.
 #[repr(C)]
@@ -93,11 +95,7 @@ pub struct Finish {
 }
 
 // What painting, gathering and measuring answer.
-#[derive(Clone, Copy)]
-pub enum Reply {
-    Done(Finish),
-    Refused(u32),
-}
+pub type Reply = Result<Finish, Refusal>;
 
 impl Shape {
     pub fn panel_words(self) -> usize
@@ -144,6 +142,15 @@ pub fn bad_panel(s: Shape, lent: usize) -> bool
     lent < s.panel_words()
 }
 
+pub fn check_panel(s: Shape, lent: usize) -> Result<(), Refusal>
+    ensures { returned result ≡ panel_number s (lent ∷ []) }
+{
+    if bad_panel(s, lent) {
+        return Err(Refusal::Panel);
+    }
+    Ok(())
+}
+
 impl Stroke {
     fn of(s: Shape, l: Label) -> Stroke
         ensures { result ≡ stroke_of s l }
@@ -168,7 +175,7 @@ impl Stroke {
             rowwords: k.rowwords,
             rows: k.rows,
             strip,
-            y: words::past(k.y, row),
+            y: k.y.saturating_sub(row),
             mode,
         }
     }
@@ -203,6 +210,17 @@ impl Pen {
             substitutes: self.substitutes,
         }
     }
+
+    // How a call ends whose last pen this is.
+    fn finish(self) -> Finish
+        requires { Near self }
+        ensures { result ≡ finish_of self }
+    {
+        Finish {
+            pen: number_at(self.place),
+            substitutes: self.substitutes as u32,
+        }
+    }
 }
 
 // A byte of a text, used as a code.
@@ -220,111 +238,77 @@ fn number_at(place: usize) -> i32
     place as i32 - 2048
 }
 
-// The reply of an accepted call.
-fn done(last: Pen) -> Reply
-    requires { Near last }
-    ensures { result ≡ Done (finish_of last) }
-{
-    Reply::Done(Finish {
-        pen: number_at(last.place),
-        substitutes: last.substitutes as u32,
-    })
-}
-
-// The pen after a text.
-fn pen_along(font: &[u16], v: View, start: Pen, text: &[u8]) -> Pen
-    requires starting { Starting start }
-    requires text_len_bound { length text.now ≤ 64 }
-    ensures value { result ≡ pen_along (steps_of (face_from v font.now)) start text.now }
-    ensures near { Near result }
-{
-    let bitmaps = fonts::bitmaps(font, v.header);
-    let mut pen = start;
-    let mut i = 0;
-    while i < text.len() {
-        pen = pen.after(Glyph::found(font, v, &bitmaps, code(text[i])).step());
-        i += 1;
-    }
-    pen
-}
-
-// The pen after a text, by the tables of a font in bytes and the advance of its dummy.
-fn pen_along_bytes(
+// The pen after a text, by the tables of a font without an index and the advance of its dummy.
+fn pen_along<F: Words>(
     h: Header,
-    pointers: &[u8],
-    widths: &[u8],
+    pointers: F,
+    widths: F,
     dummy: u16,
     start: Pen,
     text: &[u8],
 ) -> Pen
     requires starting { Starting start }
-    requires text_len_bound { length text.now ≤ 64 }
-    ensures value { result ≡ pen_along (spelt_steps h pointers.now widths.now dummy) start text.now }
+    requires short { length text.now ≤ 64 }
+    ensures value { result ≡ pen_along (steps_in h (F.as_words pointers) (F.as_words widths) dummy) start text.now }
     ensures near { Near result }
 {
     let mut pen = start;
-    let mut i = 0;
-    while i < text.len() {
-        pen = pen.after(fontbytes::step(h, pointers, widths, dummy, code(text[i])));
-        i += 1;
+    for byte in text {
+        pen = pen.after(fontbytes::step(h, pointers, widths, dummy, code(*byte)));
     }
     pen
 }
 
-// The pen after a text, by a font in bytes and where the bitmaps of its bodies begin.
-fn pen_along_map(font: &[u8], v: View, start: Pen, text: &[u8]) -> Pen
+// The pen after a text, by a font and where the bitmaps of its bodies begin.
+fn pen_along_map<F: Words>(font: F, v: View, start: Pen, text: &[u8]) -> Pen
     requires starting { Starting start }
-    requires text_len_bound { length text.now ≤ 64 }
-    ensures value { result ≡ pen_along (steps_of (face_from v (words_of font.now))) start text.now }
+    requires short { length text.now ≤ 64 }
+    ensures value { result ≡ pen_along (steps_of (face_from v (F.as_words font))) start text.now }
     ensures near { Near result }
 {
-    let bitmaps = fontbytes::bitmaps(font, v.header);
+    let bitmaps = fonts::bitmaps(font, v.header);
     let mut pen = start;
-    let mut i = 0;
-    while i < text.len() {
-        pen = pen.after(fontbytes::found_step(font, v, &bitmaps, code(text[i])));
-        i += 1;
+    for byte in text {
+        pen = pen.after(fontbytes::found_step(font, v, &bitmaps, code(*byte)));
     }
     pen
 }
 
-fn last_pen_in_bytes(font: &[u8], v: View, x: i32, text: &[u8]) -> Pen
+fn last_pen<F: Words>(font: F, v: View, x: i32, text: &[u8]) -> Pen
     requires { length text.now ≤ 64 }
-    ensures value { result ≡ last_pen (face_from v (words_of font.now)) x text.now }
+    ensures value { result ≡ last_pen (face_from v (F.as_words font)) x text.now }
     ensures near { Near result }
 {
     let h = v.header;
     if h.index() {
         return pen_along_map(font, v, Pen::at(x), text);
     }
-    let pointers = fontbytes::pointers(font, v.first());
-    let widths = fontbytes::widths(font, h);
+    let pointers = fonts::pointers(font, v.first());
+    let widths = fonts::widths(font, h);
     let dummy = fontbytes::dummy_advance(h, pointers, widths);
-    pen_along_bytes(h, pointers, widths, dummy, Pen::at(x), text)
+    pen_along(h, pointers, widths, dummy, Pen::at(x), text)
 }
 
 // What measuring is refused for, after its font.
-fn measure_number(at: i32, count: usize) -> u32
-    ensures { result ≡ measure_number at count }
+fn check_measure(at: i32, count: usize) -> Result<(), Refusal>
+    ensures { returned result ≡ measure_number at count }
 {
     if words::outside(at) {
-        return 10;
+        return Err(Refusal::Start);
     }
     if 64 < count {
-        return 11;
+        return Err(Refusal::LongLabel);
     }
-    0
+    Ok(())
 }
 
 // Measuring with a font that has been read.
-fn measure_read(font: &[u16], v: View, x: i32, text: &[u8]) -> Reply
-    ensures { result ≡ measure_with (face_from v font.now) x text.now }
+fn measure_read<F: Words>(font: F, v: View, x: i32, text: &[u8]) -> Reply
+    ensures value { result ≡ measure_with (face_from v (F.as_words font)) x text.now }
+    ensures number { returned result ≡ measure_number x (length text.now) }
 {
-    let refusal = measure_number(x, text.len());
-    if refusal != 0 {
-        return Reply::Refused(refusal);
-    }
-    done(pen_along(font, v, Pen::at(x), text))
+    check_measure(x, text.len())?;
+    Ok(last_pen(font, v, x, text).finish())
 }
 
 // The reply of an accepted painting, with no panel.
@@ -332,21 +316,8 @@ pub fn measure(font: &[u16], x: i32, text: &[u8]) -> Reply
     ensures value { result ≡ measure_of font.now x text.now }
     ensures numbers { TellsMeasure result (font_number font.now) font.now x text.now }
 {
-    match fonts::read(font) {
-        Reading::Refused(number) => Reply::Refused(number),
-        Reading::Accepted(v) => measure_read(font, v, x, text),
-    }
-}
-
-// Measuring with a font in bytes that has been read.
-fn measure_read_bytes(font: &[u8], v: View, x: i32, text: &[u8]) -> Reply
-    ensures { result ≡ measure_with (face_from v (words_of font.now)) x text.now }
-{
-    let refusal = measure_number(x, text.len());
-    if refusal != 0 {
-        return Reply::Refused(refusal);
-    }
-    done(last_pen_in_bytes(font, v, x, text))
+    let v = fonts::read(font)?;
+    measure_read(font, v, x, text)
 }
 
 // Measuring with the font in bytes, which are read where they lie.
@@ -354,10 +325,8 @@ pub fn measure_bytes(font: &[u8], x: i32, text: &[u8]) -> Reply
     ensures value { result ≡ measure_file font.now x text.now }
     ensures numbers { TellsMeasure result (file_number font.now) (words_of font.now) x text.now }
 {
-    match fontbytes::read(font) {
-        Reading::Refused(number) => Reply::Refused(number),
-        Reading::Accepted(v) => measure_read_bytes(font, v, x, text),
-    }
+    let v = fontbytes::read(font)?;
+    measure_read(font, v, x, text)
 }
 
 // The first row of the panel that a picture reaches.
@@ -368,7 +337,7 @@ fn first_row(g: Glyph, k: Stroke) -> usize
     if k.y <= above {
         return 0;
     }
-    words::least(k.rows, k.y - above)
+    k.rows.min(k.y - above)
 }
 
 // The row of the panel behind the last that a picture reaches.
@@ -381,14 +350,7 @@ fn end_row(g: Glyph, k: Stroke) -> usize
     if below <= above {
         return 0;
     }
-    words::least(k.rows, below - above)
-}
-
-// The greater of two numbers.
-fn greatest(a: usize, b: usize) -> usize
-    ensures { result ≡ max a b }
-{
-    if a < b { b } else { a }
+    k.rows.min(below - above)
 }
 
 // The columns that a picture shares with its strip, where its left column is at `left`: all counted from 4096 left of the panel.
@@ -397,8 +359,8 @@ fn shared_columns(g: Glyph, k: Stroke, left: usize) -> Strip
     ensures { result ≡ shared g k left }
 {
     Strip {
-        from: greatest(left, k.strip.from + 4096),
-        upto: words::least(left + g.columns as usize, k.strip.upto + 4096),
+        from: left.max(k.strip.from + 4096),
+        upto: (left + g.columns as usize).min(k.strip.upto + 4096),
     }
 }
 
@@ -451,13 +413,13 @@ impl Reach {
         let bit = 16 * (g.bitmap as usize + first) + g.first as usize - left;
         let raster = g.raster as usize;
         Reach {
-            rows: words::past(end_row(g, k), row),
+            rows: end_row(g, k).saturating_sub(row),
             last: end / 16 - first,
             head: from_column(columns.from),
             tail: upto_column(end),
             at: row * k.rowwords + first - 256,
             rowwords: k.rowwords,
-            source: bit / 16 + words::past(row + 2048 + g.ascent as usize, k.y) * raster,
+            source: bit / 16 + (row + 2048 + g.ascent as usize).saturating_sub(k.y) * raster,
             shift: bit % 16,
             raster,
         }
@@ -497,6 +459,22 @@ impl Reach {
         }
         self.in_file(words)
     }
+
+    // The word of the font in which the dots of a row begin.
+    fn source_of(self, row: usize) -> usize
+        requires { (self.source ≤ 17179869184) × (self.raster ≤ 65535) × (row < 256) }
+        ensures { result ≡ self.source + row * self.raster }
+    {
+        self.source + row * self.raster
+    }
+
+    // The first word that it reaches in a row.
+    fn place_of(self, row: usize) -> usize
+        requires { (self.at ≤ 65535) × (self.rowwords ≤ 128) × (row < 256) }
+        ensures { result ≡ self.at + row * self.rowwords }
+    {
+        self.at + row * self.rowwords
+    }
 }
 
 // Sixteen bits of two neighbouring words, from a bit of the first on. They are turned as a ring, with the first word last: so they lie in
@@ -529,483 +507,271 @@ fn window(font: &[u16], i: usize, shift: usize) -> u16
     two_words(words::word_at(font, i), 0, shift)
 }
 
-// The number of Erase.
-const ERASE: u32 = 1;
-
-// The number of a mode. The loops take it by that, as a plain number.
-fn mode_number(mode: Mode) -> u32
-    ensures { mode_of result ≡ mode }
+// The same, where it may be known that the word behind it is there too.
+fn dots<const IN_FILE: bool>(font: &[u16], i: usize, shift: usize) -> u16
+    requires from { (i ≤ 34359738368) × (shift < 16) }
+    requires in_file { IN_FILE ≡ true → i + 1 < length font.now }
+    ensures { result ≡ window font.now i shift }
 {
-    match mode {
-        Mode::Paint => 0,
-        Mode::Erase => 1,
-        Mode::Invert => 2,
+    if IN_FILE {
+        return dots_from(font, i, shift);
+    }
+    window(font, i, shift)
+}
+
+// How a picture is marked, and on what. From here on `flip` is a panel, or the flip of a sheet. Where the marks settle, what is marked is
+// no longer kept: keep changes as by Erase. Elsewhere nothing is asked of what is lent for a keep. Each way is a type: so the loops are
+// compiled for each, and do not ask for the mode.
+trait Marking {
+    ghost mode: { Mode };
+
+    ghost settles: { Bool };
+
+    // The dots of a mask on word i.
+    fn mark(mask: u16, i: usize, keep: &mut [u16], flip: &mut [u16])
+        requires room { i < length flip.old }
+        requires settling { settles ≡ true → i < length keep.old }
+        ensures keep { keep.new ≡ cond settles (marked Erase mask i keep.old) keep.old }
+        ensures flip { flip.new ≡ marked mode mask i flip.old };
+}
+
+// The dots of a mask on word i are no longer kept.
+fn let_go(mask: u16, i: usize, keep: &mut [u16])
+    requires { i < length keep.old }
+    ensures { keep.new ≡ marked Erase mask i keep.old }
+{
+    keep[i] = Effect::erase(mask).apply(keep[i]);
+}
+
+// On a panel; Inverting on a sheet too.
+struct Painting;
+
+struct Erasing;
+
+struct Inverting;
+
+impl Marking for Painting {
+    ghost mode = { Paint };
+
+    ghost settles = { false };
+
+    fn mark(mask: u16, i: usize, _keep: &mut [u16], flip: &mut [u16]) {
+        flip[i] = Effect::paint(mask).apply(flip[i]);
     }
 }
 
-// The dots of a mask that a mode clears: all, but in Invert none.
-fn cleared_dots(mode: u32, mask: u16) -> u16
-    ensures { result ≡ cond (ltb 1 mode) 0 mask }
-{
-    if 1 < mode {
-        return 0;
+impl Marking for Erasing {
+    ghost mode = { Erase };
+
+    ghost settles = { false };
+
+    fn mark(mask: u16, i: usize, _keep: &mut [u16], flip: &mut [u16]) {
+        flip[i] = Effect::erase(mask).apply(flip[i]);
     }
-    mask
 }
 
-// The dots of a mask that a mode then flips: all, but in Erase none.
-fn flipped_dots(mode: u32, mask: u16) -> u16
-    ensures { result ≡ cond (eqb mode 1) 0 mask }
-{
-    if mode == 1 {
-        return 0;
+impl Marking for Inverting {
+    ghost mode = { Invert };
+
+    ghost settles = { false };
+
+    fn mark(mask: u16, i: usize, _keep: &mut [u16], flip: &mut [u16]) {
+        flip[i] = Effect::invert(mask).apply(flip[i]);
     }
-    mask
 }
 
-// A word under the dots of a mask.
-fn under(mode: u32, mask: u16, word: u16) -> u16
-    ensures { result ≡ apply_to (effect_of (mode_of mode) mask) word }
-{
-    let kept = 0xFFFF - cleared_dots(mode, mask);
-    Effect::new(kept, flipped_dots(mode, mask)).apply(word)
+// On a sheet.
+struct SettlingPaint;
+
+struct SettlingErase;
+
+impl Marking for SettlingPaint {
+    ghost mode = { Paint };
+
+    ghost settles = { true };
+
+    fn mark(mask: u16, i: usize, keep: &mut [u16], flip: &mut [u16]) {
+        Painting::mark(mask, i, keep, flip);
+        let_go(mask, i, keep);
+    }
 }
 
-// The dots of a mask on word i of what is lent.
-fn mark(mode: u32, mask: u16, i: usize, lent: &mut [u16])
-    requires { i < length lent.old }
-    ensures { lent.new ≡ marked (mode_of mode) mask i lent.old }
-{
-    lent[i] = under(mode, mask, lent[i]);
+impl Marking for SettlingErase {
+    ghost mode = { Erase };
+
+    ghost settles = { true };
+
+    fn mark(mask: u16, i: usize, keep: &mut [u16], flip: &mut [u16]) {
+        Erasing::mark(mask, i, keep, flip);
+        let_go(mask, i, keep);
+    }
 }
 
 // A picture in one word a row, on the rows that it reaches.
-fn draw_narrow(font: &[u16], r: Reach, mode: u32, lent: &mut [u16])
-    requires within { Within r (length lent.old) }
-    requires font_value { spans_in r 0 (length font.now) ≡ true }
-    ensures { lent.new ≡ rows_drawn font.now r (mode_of mode) r.rows lent.old }
+#[inline]
+fn mark_narrow<M: Marking>(font: &[u16], r: Reach, keep: &mut [u16], flip: &mut [u16])
+    requires within { Within r (length flip.old) }
+    requires settling { M.settles ≡ true → Within r (length keep.old) }
+    requires narrow { spans_in r 0 (length font.now) ≡ true }
+    ensures keep { keep.new ≡ cond M.settles (rows_drawn font.now r Erase r.rows keep.old) keep.old }
+    ensures flip { flip.new ≡ rows_drawn font.now r M.mode r.rows flip.old }
 {
-    let mask = r.head & r.tail;
-    let mut from = r.source;
-    let mut at = r.at;
-    let mut row = 0;
-    while row < r.rows {
-        let dots = dots_from(font, from, r.shift) & mask;
-        mark(mode, dots, at, lent);
-        from += r.raster;
-        at += r.rowwords;
-        row += 1;
+    for row in 0..r.rows {
+        let dots = dots_from(font, r.source_of(row), r.shift) & r.head & r.tail;
+        M::mark(dots, r.place_of(row), keep, flip);
     }
 }
 
 // One row of a picture in two words a row.
-fn draw_two(font: &[u16], r: Reach, mode: u32, from: usize, at: usize, lent: &mut [u16])
-    requires last_in_bounds { (at + r.last < length lent.old) × (at ≤ 98303) × (r.last ≡ 1) }
-    requires from_bound { (from ≤ 17196646400) × (r.shift < 16) × (from + r.last + 1 < length font.now) }
-    ensures { lent.new ≡ row_drawn font.now r (mode_of mode) from at (r.last + 1) lent.old }
+fn mark_two<M: Marking>(font: &[u16], r: Reach, row: usize, keep: &mut [u16], flip: &mut [u16])
+    requires within { Within r (length flip.old) × (row < r.rows) }
+    requires settling { M.settles ≡ true → Within r (length keep.old) }
+    requires pair { spans_in r 1 (length font.now) ≡ true }
+    ensures keep { keep.new ≡ cond M.settles (nth_row font.now r Erase row keep.old) keep.old }
+    ensures flip { flip.new ≡ nth_row font.now r M.mode row flip.old }
 {
+    let from = r.source_of(row);
+    let at = r.place_of(row);
     let first = dots_from(font, from, r.shift) & r.head;
-    mark(mode, first, at, lent);
+    M::mark(first, at, keep, flip);
     let last = dots_from(font, from + 1, r.shift) & r.tail;
-    mark(mode, last, at + 1, lent);
+    M::mark(last, at + 1, keep, flip);
 }
 
 // A picture in two words a row, as a character is that begins in one word and ends in the next, on the rows that it reaches.
-fn draw_pair(font: &[u16], r: Reach, mode: u32, lent: &mut [u16])
-    requires within { Within r (length lent.old) }
-    requires font_value { spans_in r 1 (length font.now) ≡ true }
-    ensures { lent.new ≡ rows_drawn font.now r (mode_of mode) r.rows lent.old }
+fn mark_pair<M: Marking>(font: &[u16], r: Reach, keep: &mut [u16], flip: &mut [u16])
+    requires within { Within r (length flip.old) }
+    requires settling { M.settles ≡ true → Within r (length keep.old) }
+    requires pair { spans_in r 1 (length font.now) ≡ true }
+    ensures keep { keep.new ≡ cond M.settles (rows_drawn font.now r Erase r.rows keep.old) keep.old }
+    ensures flip { flip.new ≡ rows_drawn font.now r M.mode r.rows flip.old }
 {
-    let mut from = r.source;
-    let mut at = r.at;
-    let mut row = 0;
-    while row < r.rows {
-        draw_two(font, r, mode, from, at, lent);
-        from += r.raster;
-        at += r.rowwords;
-        row += 1;
+    for row in 0..r.rows {
+        mark_two::<M>(font, r, row, keep, flip);
     }
 }
 
-// One row of a picture in two words a row or more: those before the last, and the last.
-fn draw_line(font: &[u16], r: Reach, mode: u32, from: usize, at: usize, lent: &mut [u16])
-    requires last_in_bounds { (at + r.last < length lent.old) × (at ≤ 98303) × (r.last ≤ 255) × (1 ≤ r.last) }
-    requires from_bound { (from ≤ 17196646400) × (r.shift < 16) × (from + r.last + 1 < length font.now) }
-    ensures { lent.new ≡ row_drawn font.now r (mode_of mode) from at (r.last + 1) lent.old }
-{
-    let mut mask = r.head;
-    let mut w = 0;
-    while w < r.last {
-        let dots = dots_from(font, from + w, r.shift) & mask;
-        mark(mode, dots, at + w, lent);
-        mask = 0xFFFF;
-        w += 1;
-    }
-    let dots = dots_from(font, from + w, r.shift) & r.tail;
-    mark(mode, dots, at + w, lent);
-}
-
-// A picture in two words a row or more, on the rows that it reaches.
-fn draw_wide(font: &[u16], r: Reach, mode: u32, lent: &mut [u16])
-    requires within { Within r (length lent.old) × (1 ≤ r.last) }
-    requires font_value { in_file r (length font.now) ≡ true }
-    ensures { lent.new ≡ rows_drawn font.now r (mode_of mode) r.rows lent.old }
-{
-    let mut from = r.source;
-    let mut at = r.at;
-    let mut row = 0;
-    while row < r.rows {
-        draw_line(font, r, mode, from, at, lent);
-        from += r.raster;
-        at += r.rowwords;
-        row += 1;
-    }
-}
-
-// One row of a picture that does not lie in the file, as no font has that was read: no dot of it is past the end.
-fn draw_row(font: &[u16], r: Reach, mode: u32, from: usize, at: usize, lent: &mut [u16])
-    requires last_in_bounds { (at + r.last < length lent.old) × (at ≤ 98303) × (r.last ≤ 255) }
-    requires from_bound { (from ≤ 17196646400) × (r.shift < 16) }
-    ensures { lent.new ≡ row_drawn font.now r (mode_of mode) from at (r.last + 1) lent.old }
-{
-    let mut mask = r.head;
-    let mut w = 0;
-    while w < r.last {
-        let dots = window(font, from + w, r.shift) & mask;
-        mark(mode, dots, at + w, lent);
-        mask = 0xFFFF;
-        w += 1;
-    }
-    let dots = window(font, from + w, r.shift) & mask & r.tail;
-    mark(mode, dots, at + w, lent);
-}
-
-// Such a picture, on the rows that it reaches.
-fn draw_rows(font: &[u16], r: Reach, mode: u32, lent: &mut [u16])
-    requires { Within r (length lent.old) }
-    ensures { lent.new ≡ rows_drawn font.now r (mode_of mode) r.rows lent.old }
-{
-    let mut from = r.source;
-    let mut at = r.at;
-    let mut row = 0;
-    while row < r.rows {
-        draw_row(font, r, mode, from, at, lent);
-        from += r.raster;
-        at += r.rowwords;
-        row += 1;
-    }
-}
-
-// A picture that is not in one word a row, painted; or one that does not lie in the file.
-fn paint_other(font: &[u16], r: Reach, mode: u32, panel: &mut [u16])
-    requires within { Within r (length panel.old) }
-    requires font_value { spans_in r 0 (length font.now) ≡ false }
-    ensures { panel.new ≡ rows_drawn font.now r (mode_of mode) r.rows panel.old }
-{
-    if r.spans(1, font.len()) {
-        draw_pair(font, r, mode, panel);
-        return;
-    }
-    if r.in_file(font.len()) {
-        draw_wide(font, r, mode, panel);
-        return;
-    }
-    draw_rows(font, r, mode, panel);
-}
-
-// A picture's marks on the panel.
-fn paint_picture(font: &[u16], g: Glyph, k: Stroke, pen: Pen, panel: &mut [u16])
-    requires drawable { Drawable k (length panel.old) }
-    requires place_le_farthest { (pen.place ≤ farthest) × (1 ≤ g.bitmap) }
-    ensures { panel.new ≡ on_panel (picture_effect (dot_of font.now) k pen g) k panel.old }
-{
-    let reach = Reach::of(g, k, pen);
-    if reach.rows == 0 {
-        return;
-    }
-    let own = k.mode;
-    let mode = mode_number(own);
-    if reach.spans(0, font.len()) {
-        draw_narrow(font, reach, mode, panel);
-        return;
-    }
-    paint_other(font, reach, mode, panel);
-}
-
-// A picture in one word a row, joined onto a sheet by Paint or Erase: its dots are no longer kept, and flip changes as a panel does.
-fn settle_narrow(font: &[u16], r: Reach, mode: u32, keep: &mut [u16], flip: &mut [u16])
-    requires within { Within r (length keep.old) }
-    requires within_2 { Within r (length flip.old) }
-    requires font_value { spans_in r 0 (length font.now) ≡ true }
-    ensures keep { keep.new ≡ rows_drawn font.now r (mode_of 1) r.rows keep.old }
-    ensures flip { flip.new ≡ rows_drawn font.now r (mode_of mode) r.rows flip.old }
-{
-    let columns = r.head & r.tail;
-    let mut from = r.source;
-    let mut at = r.at;
-    let mut row = 0;
-    while row < r.rows {
-        let dots = dots_from(font, from, r.shift) & columns;
-        mark(mode, dots, at, flip);
-        mark(ERASE, dots, at, keep);
-        from += r.raster;
-        at += r.rowwords;
-        row += 1;
-    }
-}
-
-// So by any mode. Invert changes flip alone.
-fn join_narrow(font: &[u16], r: Reach, mode: u32, keep: &mut [u16], flip: &mut [u16])
-    requires within { Within r (length keep.old) }
-    requires within_2 { Within r (length flip.old) }
-    requires font_value { spans_in r 0 (length font.now) ≡ true }
-    ensures keep { keep.new ≡ rows_kept font.now r (mode_of mode) keep.old }
-    ensures flip { flip.new ≡ rows_drawn font.now r (mode_of mode) r.rows flip.old }
-{
-    if mode < 2 {
-        settle_narrow(font, r, mode, keep, flip);
-        return;
-    }
-    draw_narrow(font, r, mode, flip);
-}
-
-// One row of a picture in two words a row, joined so by Paint or Erase.
-fn settle_two(
+// One row of any picture: its words before the last, and the last. A picture that does not lie in the file, as none does of a font that was
+// read, has no dot past the end.
+#[inline]
+fn mark_line<M: Marking, const IN_FILE: bool>(
     font: &[u16],
     r: Reach,
-    mode: u32,
     from: usize,
     at: usize,
     keep: &mut [u16],
     flip: &mut [u16],
 )
-    requires last_in_bounds { (at + r.last < length keep.old) × (at + r.last < length flip.old) × (at ≤ 98303) × (r.last ≡ 1) }
-    requires from_bound { (from ≤ 17196646400) × (r.shift < 16) × (from + r.last + 1 < length font.now) }
-    ensures keep { keep.new ≡ row_drawn font.now r (mode_of 1) from at (r.last + 1) keep.old }
-    ensures flip { flip.new ≡ row_drawn font.now r (mode_of mode) from at (r.last + 1) flip.old }
+    requires room { (at + r.last < length flip.old) × (at ≤ 98303) }
+    requires settling { M.settles ≡ true → at + r.last < length keep.old }
+    requires source { (from ≤ 17196646400) × (r.shift < 16) × (r.last ≤ 255) }
+    requires in_file { IN_FILE ≡ true → from + r.last + 1 < length font.now }
+    ensures keep { keep.new ≡ cond M.settles (row_drawn font.now r Erase from at (r.last + 1) keep.old) keep.old }
+    ensures flip { flip.new ≡ row_drawn font.now r M.mode from at (r.last + 1) flip.old }
 {
-    let first = dots_from(font, from, r.shift) & r.head;
-    mark(mode, first, at, flip);
-    mark(ERASE, first, at, keep);
-    let last = dots_from(font, from + 1, r.shift) & r.tail;
-    mark(mode, last, at + 1, flip);
-    mark(ERASE, last, at + 1, keep);
-}
-
-// Such a picture, on the rows that it reaches.
-fn settle_pair(font: &[u16], r: Reach, mode: u32, keep: &mut [u16], flip: &mut [u16])
-    requires within { Within r (length keep.old) }
-    requires within_2 { Within r (length flip.old) }
-    requires font_value { spans_in r 1 (length font.now) ≡ true }
-    ensures keep { keep.new ≡ rows_drawn font.now r (mode_of 1) r.rows keep.old }
-    ensures flip { flip.new ≡ rows_drawn font.now r (mode_of mode) r.rows flip.old }
-{
-    let mut from = r.source;
-    let mut at = r.at;
-    let mut row = 0;
-    while row < r.rows {
-        settle_two(font, r, mode, from, at, keep, flip);
-        from += r.raster;
-        at += r.rowwords;
-        row += 1;
+    let mut mask = r.head;
+    for w in 0..r.last {
+        let dots = dots::<IN_FILE>(font, from + w, r.shift) & mask;
+        M::mark(dots, at + w, keep, flip);
+        mask = 0xFFFF;
     }
+    let last = dots::<IN_FILE>(font, from + r.last, r.shift) & mask & r.tail;
+    M::mark(last, at + r.last, keep, flip);
 }
 
-// A picture in two words a row, joined by any mode.
-fn join_pair(font: &[u16], r: Reach, mode: u32, keep: &mut [u16], flip: &mut [u16])
-    requires within { Within r (length keep.old) }
-    requires within_2 { Within r (length flip.old) }
-    requires font_value { spans_in r 1 (length font.now) ≡ true }
-    ensures keep { keep.new ≡ rows_kept font.now r (mode_of mode) keep.old }
-    ensures flip { flip.new ≡ rows_drawn font.now r (mode_of mode) r.rows flip.old }
-{
-    if mode < 2 {
-        settle_pair(font, r, mode, keep, flip);
-        return;
-    }
-    draw_pair(font, r, mode, flip);
-}
-
-// One row of a picture in two words a row or more, joined so by Paint or Erase.
-fn settle_line(
+// Any picture, on the rows that it reaches. Where a row begins is carried along, since the compiler makes sums of products in an innermost
+// loop alone.
+fn mark_lines<M: Marking, const IN_FILE: bool>(
     font: &[u16],
     r: Reach,
-    mode: u32,
-    from: usize,
-    at: usize,
     keep: &mut [u16],
     flip: &mut [u16],
 )
-    requires last_in_bounds { (at + r.last < length keep.old) × (at + r.last < length flip.old) × (at ≤ 98303) }
-    requires last_bound { (r.last ≤ 255) × (1 ≤ r.last) }
-    requires from_bound { (from ≤ 17196646400) × (r.shift < 16) × (from + r.last + 1 < length font.now) }
-    ensures keep { keep.new ≡ row_drawn font.now r (mode_of 1) from at (r.last + 1) keep.old }
-    ensures flip { flip.new ≡ row_drawn font.now r (mode_of mode) from at (r.last + 1) flip.old }
-{
-    let mut mask = r.head;
-    let mut w = 0;
-    while w < r.last {
-        let dots = dots_from(font, from + w, r.shift) & mask;
-        mark(mode, dots, at + w, flip);
-        mark(ERASE, dots, at + w, keep);
-        mask = 0xFFFF;
-        w += 1;
-    }
-    let last = dots_from(font, from + w, r.shift) & r.tail;
-    mark(mode, last, at + w, flip);
-    mark(ERASE, last, at + w, keep);
-}
-
-// Such a picture, on the rows that it reaches.
-fn settle_wide(font: &[u16], r: Reach, mode: u32, keep: &mut [u16], flip: &mut [u16])
-    requires within { Within r (length keep.old) × (1 ≤ r.last) }
-    requires within_2 { Within r (length flip.old) }
-    requires font_value { in_file r (length font.now) ≡ true }
-    ensures keep { keep.new ≡ rows_drawn font.now r (mode_of 1) r.rows keep.old }
-    ensures flip { flip.new ≡ rows_drawn font.now r (mode_of mode) r.rows flip.old }
+    requires within { Within r (length flip.old) }
+    requires settling { M.settles ≡ true → Within r (length keep.old) }
+    requires in_file { IN_FILE ≡ true → in_file r (length font.now) ≡ true }
+    ensures keep { keep.new ≡ cond M.settles (rows_drawn font.now r Erase r.rows keep.old) keep.old }
+    ensures flip { flip.new ≡ rows_drawn font.now r M.mode r.rows flip.old }
 {
     let mut from = r.source;
     let mut at = r.at;
-    let mut row = 0;
-    while row < r.rows {
-        settle_line(font, r, mode, from, at, keep, flip);
+    for _row in 0..r.rows {
+        mark_line::<M, IN_FILE>(font, r, from, at, keep, flip);
         from += r.raster;
         at += r.rowwords;
-        row += 1;
     }
 }
 
-// A picture in the file and in two words a row or more, joined by any mode.
-fn join_wide(font: &[u16], r: Reach, mode: u32, keep: &mut [u16], flip: &mut [u16])
-    requires within { Within r (length keep.old) × (1 ≤ r.last) }
-    requires within_2 { Within r (length flip.old) }
-    requires font_value { in_file r (length font.now) ≡ true }
-    ensures keep { keep.new ≡ rows_kept font.now r (mode_of mode) keep.old }
-    ensures flip { flip.new ≡ rows_drawn font.now r (mode_of mode) r.rows flip.old }
+// A picture in any words a row, in the file or not.
+fn mark_far<M: Marking>(font: &[u16], r: Reach, keep: &mut [u16], flip: &mut [u16])
+    requires within { Within r (length flip.old) }
+    requires settling { M.settles ≡ true → Within r (length keep.old) }
+    ensures keep { keep.new ≡ cond M.settles (rows_drawn font.now r Erase r.rows keep.old) keep.old }
+    ensures flip { flip.new ≡ rows_drawn font.now r M.mode r.rows flip.old }
 {
-    if mode < 2 {
-        settle_wide(font, r, mode, keep, flip);
+    if r.in_file(font.len()) {
+        mark_lines::<M, true>(font, r, keep, flip);
         return;
     }
-    draw_wide(font, r, mode, flip);
+    mark_lines::<M, false>(font, r, keep, flip);
 }
 
-// A picture that does not lie in the file, joined by any mode.
-fn join_rows(font: &[u16], r: Reach, mode: u32, keep: &mut [u16], flip: &mut [u16])
-    requires within { Within r (length keep.old) }
-    requires within_2 { Within r (length flip.old) }
-    ensures keep { keep.new ≡ rows_kept font.now r (mode_of mode) keep.old }
-    ensures flip { flip.new ≡ rows_drawn font.now r (mode_of mode) r.rows flip.old }
-{
-    draw_rows(font, r, mode, flip);
-    if mode < 2 {
-        draw_rows(font, r, ERASE, keep);
-    }
-}
-
-// A picture that is not in one word a row, joined; or one that does not lie in the file.
-fn join_other(font: &[u16], r: Reach, mode: u32, keep: &mut [u16], flip: &mut [u16])
-    requires within { Within r (length keep.old) }
-    requires within_2 { Within r (length flip.old) }
-    requires font_value { spans_in r 0 (length font.now) ≡ false }
-    ensures keep { keep.new ≡ rows_kept font.now r (mode_of mode) keep.old }
-    ensures flip { flip.new ≡ rows_drawn font.now r (mode_of mode) r.rows flip.old }
+// The same, where one in two words a row has a loop of its own.
+fn mark_other<M: Marking>(font: &[u16], r: Reach, keep: &mut [u16], flip: &mut [u16])
+    requires within { Within r (length flip.old) }
+    requires settling { M.settles ≡ true → Within r (length keep.old) }
+    ensures keep { keep.new ≡ cond M.settles (rows_drawn font.now r Erase r.rows keep.old) keep.old }
+    ensures flip { flip.new ≡ rows_drawn font.now r M.mode r.rows flip.old }
 {
     if r.spans(1, font.len()) {
-        join_pair(font, r, mode, keep, flip);
+        mark_pair::<M>(font, r, keep, flip);
         return;
     }
-    if r.in_file(font.len()) {
-        join_wide(font, r, mode, keep, flip);
-        return;
-    }
-    join_rows(font, r, mode, keep, flip);
+    mark_far::<M>(font, r, keep, flip);
 }
 
-// A picture's effect joined onto a sheet.
-fn join_picture(font: &[u16], g: Glyph, k: Stroke, pen: Pen, keep: &mut [u16], flip: &mut [u16])
-    requires drawable { Drawable k (length keep.old) }
-    requires k_in_bounds { stroke_words k ≤ length flip.old }
-    requires place_le_farthest { (pen.place ≤ farthest) × (1 ≤ g.bitmap) }
-    ensures keep { keep.new ≡ on_panel (cleared (picture_effect (dot_of font.now) k pen g)) k keep.old }
+// A picture's marks.
+fn mark_picture<M: Marking>(
+    font: &[u16],
+    g: Glyph,
+    k: Stroke,
+    pen: Pen,
+    keep: &mut [u16],
+    flip: &mut [u16],
+)
+    requires drawable { Drawable k (length flip.old) }
+    requires settling { M.settles ≡ true → stroke_words k ≤ length keep.old }
+    requires glyph { (pen.place ≤ farthest) × (1 ≤ g.bitmap) }
+    requires mode { k.mode ≡ M.mode }
+    ensures keep { keep.new ≡ kept_if M.settles (picture_effect (dot_of font.now) (erasing k) pen g) k keep.old }
     ensures flip { flip.new ≡ on_panel (picture_effect (dot_of font.now) k pen g) k flip.old }
 {
     let reach = Reach::of(g, k, pen);
     if reach.rows == 0 {
         return;
     }
-    let own = k.mode;
-    let mode = mode_number(own);
     if reach.spans(0, font.len()) {
-        join_narrow(font, reach, mode, keep, flip);
+        mark_narrow::<M>(font, reach, keep, flip);
         return;
     }
-    join_other(font, reach, mode, keep, flip);
+    mark_other::<M>(font, reach, keep, flip);
 }
 
-// With a font that has an index painting and gathering share one loop, and what they call is its own: so the compiler makes it a part of
-// that loop, and leaves `paint_picture` and `join_picture` parts of theirs. A picture is marked on a panel, or on the flip of a sheet; where
-// it settles, by Paint or Erase on a sheet, its dots are no longer kept.
-
-// A picture that is not in one word a row, or does not lie in the file, on one list of words.
-fn draw_far(font: &[u16], r: Reach, mode: u32, lent: &mut [u16])
-    requires within { Within r (length lent.old) }
-    requires font_value { spans_in r 0 (length font.now) ≡ false }
-    ensures { lent.new ≡ rows_drawn font.now r (mode_of mode) r.rows lent.old }
-{
-    if r.in_file(font.len()) {
-        draw_wide(font, r, mode, lent);
-        return;
-    }
-    draw_rows(font, r, mode, lent);
-}
-
-// Such a picture where it settles.
-fn settle_far(font: &[u16], r: Reach, mode: u32, keep: &mut [u16], flip: &mut [u16])
-    requires within { Within r (length keep.old) }
-    requires within_2 { Within r (length flip.old) }
-    requires font_value { spans_in r 0 (length font.now) ≡ false }
-    ensures keep { keep.new ≡ rows_drawn font.now r (mode_of 1) r.rows keep.old }
-    ensures flip { flip.new ≡ rows_drawn font.now r (mode_of mode) r.rows flip.old }
-{
-    if r.in_file(font.len()) {
-        settle_wide(font, r, mode, keep, flip);
-        return;
-    }
-    // No font that was read has such a picture.
-    draw_rows(font, r, mode, flip);
-    draw_rows(font, r, ERASE, keep);
-}
-
-// Such a picture, marked.
-fn mark_far(font: &[u16], r: Reach, mode: u32, settles: bool, keep: &mut [u16], flip: &mut [u16])
-    requires within { settles ≡ true → Within r (length keep.old) }
-    requires within_2 { Within r (length flip.old) }
-    requires font_value { spans_in r 0 (length font.now) ≡ false }
-    ensures keep { keep.new ≡ cond settles (rows_drawn font.now r (mode_of 1) r.rows keep.old) keep.old }
-    ensures flip { flip.new ≡ rows_drawn font.now r (mode_of mode) r.rows flip.old }
-{
-    if settles {
-        settle_far(font, r, mode, keep, flip);
-        return;
-    }
-    draw_far(font, r, mode, flip);
-}
-
-// A picture's marks.
-fn mark_named(
+// The same of a font that has an index. What its loop calls is its own: so the compiler makes it a part of that loop, and leaves
+// `mark_picture` a part of its.
+fn mark_named<M: Marking>(
     font: &[u16],
     g: Glyph,
     k: Stroke,
     pen: Pen,
-    settles: bool,
     keep: &mut [u16],
     flip: &mut [u16],
 )
     requires drawable { Drawable k (length flip.old) }
-    requires k_in_bounds { settles ≡ true → stroke_words k ≤ length keep.old }
-    requires place_le_farthest { (pen.place ≤ farthest) × (1 ≤ g.bitmap) }
-    ensures keep { keep.new ≡ kept_if settles (picture_effect (dot_of font.now) (erasing k) pen g) k keep.old }
+    requires settling { M.settles ≡ true → stroke_words k ≤ length keep.old }
+    requires glyph { (pen.place ≤ farthest) × (1 ≤ g.bitmap) }
+    requires mode { k.mode ≡ M.mode }
+    ensures keep { keep.new ≡ kept_if M.settles (picture_effect (dot_of font.now) (erasing k) pen g) k keep.old }
     ensures flip { flip.new ≡ on_panel (picture_effect (dot_of font.now) k pen g) k flip.old }
 {
     if misses(g, k, pen) {
@@ -1015,37 +781,32 @@ fn mark_named(
     if reach.rows == 0 {
         return;
     }
-    let own = k.mode;
-    let mode = mode_number(own);
     if reach.spans(0, font.len()) {
-        if settles {
-            settle_narrow(font, reach, mode, keep, flip);
-            return;
-        }
-        draw_narrow(font, reach, mode, flip);
+        mark_narrow::<M>(font, reach, keep, flip);
         return;
     }
-    mark_far(font, reach, mode, settles, keep, flip);
+    mark_far::<M>(font, reach, keep, flip);
 }
 
-// The characters of a text, in order. The bodies of the font are walked over once. Hands back the pen after the last.
-fn mark_mapped(
+// The characters of a text, in order, of a font that has an index. The bodies of the font are walked over once. Hands back the pen after
+// the last.
+fn mark_mapped<M: Marking>(
     font: &[u16],
     v: View,
     k: Stroke,
     start: Pen,
     text: &[u8],
-    settles: bool,
     keep: &mut [u16],
     flip: &mut [u16],
 ) -> Pen
     requires drawable { Drawable k (length flip.old) }
-    requires k_in_bounds { settles ≡ true → stroke_words k ≤ length keep.old }
+    requires settling { M.settles ≡ true → stroke_words k ≤ length keep.old }
     requires starting { Starting start × (index v.header ≡ true) }
-    requires text_len_bound { length text.now ≤ 64 }
+    requires short { length text.now ≤ 64 }
+    requires mode { k.mode ≡ M.mode }
     ensures value { result ≡ pen_along (steps_of (face_from v font.now)) start text.now }
     ensures near { Near result }
-    ensures keep { keep.new ≡ kept_if settles (erased_by (face_from v font.now) k start text.now) k keep.old }
+    ensures keep { keep.new ≡ kept_if M.settles (erased_by (face_from v font.now) k start text.now) k keep.old }
     ensures flip { flip.new ≡ on_panel (label_effect (face_from v font.now) k start text.now) k flip.old }
 {
     let h = v.header;
@@ -1054,44 +815,67 @@ fn mark_mapped(
     let map = fonts::map(font, h);
     let widths = fonts::widths(font, h);
     let mut pen = start;
-    let mut i = 0;
-    while i < text.len() {
-        let n = Named::of(h, map, widths, code(text[i]));
+    for byte in text {
+        let n = Named::of(h, map, widths, code(*byte));
         let g = Glyph::named(font, v, &bitmaps, n);
-        mark_named(font, g, k, pen, settles, keep, flip);
+        mark_named::<M>(font, g, k, pen, keep, flip);
         pen = pen.after(g.step());
-        i += 1;
     }
     pen
 }
 
-// The characters of a text, in order, on the panel. Hands back the pen after the last.
-fn paint_text(font: &[u16], v: View, k: Stroke, start: Pen, text: &[u8], panel: &mut [u16]) -> Pen
-    requires drawable { Drawable k (length panel.old) }
+// The characters of a text, in order. Hands back the pen after the last.
+fn mark_text<M: Marking>(
+    font: &[u16],
+    v: View,
+    k: Stroke,
+    start: Pen,
+    text: &[u8],
+    keep: &mut [u16],
+    flip: &mut [u16],
+) -> Pen
+    requires drawable { Drawable k (length flip.old) }
+    requires settling { M.settles ≡ true → stroke_words k ≤ length keep.old }
     requires starting { Starting start }
-    requires text_len_bound { length text.now ≤ 64 }
+    requires short { length text.now ≤ 64 }
+    requires mode { k.mode ≡ M.mode }
     ensures value { result ≡ pen_along (steps_of (face_from v font.now)) start text.now }
     ensures near { Near result }
-    ensures panel { panel.new ≡ on_panel (label_effect (face_from v font.now) k start text.now) k panel.old }
+    ensures keep { keep.new ≡ kept_if M.settles (erased_by (face_from v font.now) k start text.now) k keep.old }
+    ensures flip { flip.new ≡ on_panel (label_effect (face_from v font.now) k start text.now) k flip.old }
 {
     if v.header.index() {
-        let mut none = [0u16; 1];
-        return mark_mapped(font, v, k, start, text, false, &mut none, panel);
+        return mark_mapped::<M>(font, v, k, start, text, keep, flip);
     }
     let pointers = fonts::pointers(font, v.first());
     let widths = fonts::widths(font, v.header);
     let mut pen = start;
-    let mut i = 0;
-    while i < text.len() {
-        let g = Glyph::at(v, pointers, widths, code(text[i]));
-        paint_picture(font, g, k, pen, panel);
+    for byte in text {
+        let g = Glyph::at(v, pointers, widths, code(*byte));
+        mark_picture::<M>(font, g, k, pen, keep, flip);
         pen = pen.after(g.step());
-        i += 1;
     }
     pen
 }
 
-// The characters of a text, in order, joined onto a sheet. Hands back the pen after the last.
+// A text on the panel.
+fn paint_text(font: &[u16], v: View, k: Stroke, start: Pen, text: &[u8], panel: &mut [u16]) -> Pen
+    requires drawable { Drawable k (length panel.old) }
+    requires starting { Starting start }
+    requires short { length text.now ≤ 64 }
+    ensures value { result ≡ pen_along (steps_of (face_from v font.now)) start text.now }
+    ensures near { Near result }
+    ensures panel { panel.new ≡ on_panel (label_effect (face_from v font.now) k start text.now) k panel.old }
+{
+    let mut none = [0u16; 1];
+    match k.mode {
+        Mode::Paint => mark_text::<Painting>(font, v, k, start, text, &mut none, panel),
+        Mode::Erase => mark_text::<Erasing>(font, v, k, start, text, &mut none, panel),
+        Mode::Invert => mark_text::<Inverting>(font, v, k, start, text, &mut none, panel),
+    }
+}
+
+// A text joined onto a sheet.
 fn join_text(
     font: &[u16],
     v: View,
@@ -1102,62 +886,49 @@ fn join_text(
     flip: &mut [u16],
 ) -> Pen
     requires drawable { Drawable k (length keep.old) }
-    requires k_in_bounds { stroke_words k ≤ length flip.old }
+    requires flip_room { stroke_words k ≤ length flip.old }
     requires starting { Starting start }
-    requires text_len_bound { length text.now ≤ 64 }
+    requires short { length text.now ≤ 64 }
     ensures value { result ≡ pen_along (steps_of (face_from v font.now)) start text.now }
     ensures near { Near result }
     ensures keep { keep.new ≡ on_panel (cleared (label_effect (face_from v font.now) k start text.now)) k keep.old }
     ensures flip { flip.new ≡ on_panel (label_effect (face_from v font.now) k start text.now) k flip.old }
 {
-    if v.header.index() {
-        let own = k.mode;
-        let settles = mode_number(own) < 2;
-        return mark_mapped(font, v, k, start, text, settles, keep, flip);
+    match k.mode {
+        Mode::Paint => mark_text::<SettlingPaint>(font, v, k, start, text, keep, flip),
+        Mode::Erase => mark_text::<SettlingErase>(font, v, k, start, text, keep, flip),
+        Mode::Invert => mark_text::<Inverting>(font, v, k, start, text, keep, flip),
     }
-    let pointers = fonts::pointers(font, v.first());
-    let widths = fonts::widths(font, v.header);
-    let mut pen = start;
-    let mut i = 0;
-    while i < text.len() {
-        let g = Glyph::at(v, pointers, widths, code(text[i]));
-        join_picture(font, g, k, pen, keep, flip);
-        pen = pen.after(g.step());
-        i += 1;
-    }
-    pen
 }
 
 // What a label is refused for by its own numbers, after its font and its panel.
-fn label_number(l: Label, bytes: usize) -> u32
-    ensures { result ≡ label_number l bytes }
+fn check_label(l: Label, bytes: usize) -> Result<(), Refusal>
+    ensures { returned result ≡ label_number l bytes }
 {
     if 31 < l.strip {
-        return 9;
+        return Err(Refusal::Strip);
     }
     if words::outside(l.x) {
-        return 10;
+        return Err(Refusal::Start);
     }
     if words::outside(l.y) {
-        return 10;
+        return Err(Refusal::Start);
     }
     if 64 < bytes {
-        return 11;
+        return Err(Refusal::LongLabel);
     }
     if 2 < l.mode {
-        return 12;
+        return Err(Refusal::Mode);
     }
-    0
+    Ok(())
 }
 
 // What a label is refused for with a font that has been read, where it is lent one slice of so many words.
-pub fn number_with(s: Shape, lent: usize, l: Label, bytes: usize) -> u32
-    ensures { result ≡ number_with s (lent ∷ []) l bytes }
+pub fn check_with(s: Shape, lent: usize, l: Label, bytes: usize) -> Result<(), Refusal>
+    ensures { returned result ≡ number_with s (lent ∷ []) l bytes }
 {
-    if bad_panel(s, lent) {
-        return 8;
-    }
-    label_number(l, bytes)
+    check_panel(s, lent)?;
+    check_label(l, bytes)
 }
 
 // Paints a label with a font that has been read.
@@ -1173,11 +944,8 @@ pub fn paint_label(
     ensures panel { panel.new ≡ paint_with (face_from v font.now) s l text.now panel.old }
     ensures numbers { TellsWith result (face_from v font.now) s (length panel.old ∷ []) l text.now }
 {
-    let refusal = number_with(s, panel.len(), l, text.len());
-    if refusal != 0 {
-        return Reply::Refused(refusal);
-    }
-    done(paint_text(font, v, Stroke::of(s, l), Pen::at(l.x), text, panel))
+    check_with(s, panel.len(), l, text.len())?;
+    Ok(paint_text(font, v, Stroke::of(s, l), Pen::at(l.x), text, panel).finish())
 }
 
 // Paints on the words of one row what a label paints on that row of a panel, with a font that has been read: so it is found out what the
@@ -1201,7 +969,7 @@ pub fn paint_row(
     if 255 < row {
         return;
     }
-    if number_with(one, words.len(), l, text.len()) != 0 {
+    if check_with(one, words.len(), l, text.len()).is_err() {
         return;
     }
     paint_text(
@@ -1229,12 +997,9 @@ pub fn join_label(
     ensures flip { flip.new ≡ (join_with (face_from v font.now) s l text.now (sheet_of keep.old flip.old)).flip }
     ensures numbers { TellsWith result (face_from v font.now) s (lengths_of keep.old flip.old) l text.now }
 {
-    let shorter = words::least(keep.len(), flip.len());
-    let refusal = number_with(s, shorter, l, text.len());
-    if refusal != 0 {
-        return Reply::Refused(refusal);
-    }
-    done(join_text(font, v, Stroke::of(s, l), Pen::at(l.x), text, keep, flip))
+    let shorter = keep.len().min(flip.len());
+    check_with(s, shorter, l, text.len())?;
+    Ok(join_text(font, v, Stroke::of(s, l), Pen::at(l.x), text, keep, flip).finish())
 }
 
 // Paints a label into one of the thirty-two strips of a panel.
@@ -1243,8 +1008,6 @@ pub fn paint(font: &[u16], s: Shape, l: Label, text: &[u8], panel: &mut [u16]) -
     ensures panel { panel.new ≡ paint_after s (call_of font.now l text.now) panel.old }
     ensures numbers { TellsCall result s (length panel.old ∷ []) (call_of font.now l text.now) }
 {
-    match fonts::read(font) {
-        Reading::Refused(number) => Reply::Refused(number),
-        Reading::Accepted(v) => paint_label(font, v, s, l, text, panel),
-    }
+    let v = fonts::read(font)?;
+    paint_label(font, v, s, l, text, panel)
 }

@@ -9,7 +9,8 @@ use lib.ListN.{take}
 use lib.Seq.{take-take}
 use Rattle.paint.specs.declared.Shape.{Shape}
 use Rattle.preview.specs.Line.{Dots, after_line}
-use Rattle.preview.specs.Lines.{most, ended, unended, after_lines}
+use Rattle.preview.specs.Begun.{most}
+use Rattle.preview.specs.Lines.{ended, unended, after_lines}
 use Rattle.preview.proofs.Keeping.{kept-paints}
 
 -- a claim about a test holds if it does both ways

@@ -12,7 +12,7 @@ use borrow.Author.Tests.{lt-ltb, ltb-true, ltb-false}
 use Rattle.paint.specs.declared.Shape.{Shape}
 use Rattle.preview.specs.declared.label.Line.TheVariants.{Passed, Other}
 use Rattle.preview.specs.Line.{longest, without_return, kind_of, line_of, Dots, after_line}
-use Rattle.preview.specs.Lines.{most}
+use Rattle.preview.specs.Begun.{most}
 use Rattle.preview.proofs.Lines.{passed-line, other-line}
 
 -- at most one byte is left out for a return

@@ -1,8 +1,5 @@
 pub mod Putting
 pub mod Digits
-pub mod Signs
-pub mod Same
-pub mod Words
 pub mod Lines
 pub mod Keeping
 pub mod Cutting

@@ -1,7 +1,11 @@
 -- Two outcomes that a contract permits are equal: the reply, and every byte or word that was lent. So it is for each public function that
 -- has a reply, but for `read_some` and `read_file`, of whose bytes nothing is known; and for `paint_lines`, where the same bytes were read.
-use mathlib.Core.Path.{◌≡◌, refl, sym, ap₂, ◌∙◌}
-use mathlib.Core.Bool.{Bool, true, false, cond}
+use mathlib.Core.Path.{◌≡◌, refl, sym, ap, ap₂, ◌∙◌}
+use mathlib.Core.Bool.{Bool, true, false, cond, false≢true}
+use mathlib.Core.Logic.{◌↔◌}
+use Rattle.std.specs.Prelude.{IsTrue, Result, Ok, Err, Some, is_ok, IfOk}
+use Rattle.std.specs.Result.{result_ok}
+use Rattle.reading.specs.declared.ReadFailed.{ReadFailed}
 use mathlib.Core.List.{List, []}
 use Prim.Native.Nat.{ℕ}
 use contract.Lifetimes.{Lfts}
@@ -13,15 +17,13 @@ use Rattle.std.specs.declared.io.Eprint as Eprint
 use Rattle.std.specs.declared.io.Read as Read
 use borrow.Fn.Kinds.{Dens, res_t, ended_of}
 use Rattle.words.proofs.Outcomes.{OneReply}
-use Rattle.preview.specs.Line.{counted}
+use Rattle.preview.specs.Line.{Dots, counted}
 use Rattle.preview.specs.Lines.{zeros, ended, lines_of, after_lines}
 use Rattle.preview.proofs.help.is_asked as is-asked
-use Rattle.preview.proofs.help.same as same
 use Rattle.preview.proofs.input.first_of as first_of
 use Rattle.preview.proofs.label.line_of as Line-of
 use Rattle.preview.proofs.label.text_of as text_of
 use Rattle.preview.proofs.number.decimal as decimal
-use Rattle.preview.proofs.number.part as part
 use Rattle.preview.proofs.number.signed_decimal as signed_decimal
 use Rattle.preview.proofs.painting.paint_lines as paint-lines
 use Rattle.preview.proofs.picture.picture as picture
@@ -35,35 +37,28 @@ picture-one κs a r o e e' p q = (p.0.ends ∙ sym q.0.ends, p.0.leaves ∙ sym 
 
 -- ---- what is asked for
 
-same_answer : (r o : Bool) → (r ≡ true → o ≡ true) → (o ≡ true → r ≡ true) → r ≡ o
-same_answer true o there back = sym (there refl)
-same_answer false true there back = back refl
-same_answer false false there back = refl
-
-pub same-one : OneReply 2 same.Kinds.ps same.Kinds.r same.Reads.Post
-same-one κs a r o e e' p q = same_answer r o (λ yes. q.1 (p.0 yes)) (λ yes. p.1 (q.0 yes))
+same_answer : (asked : Type 0) (r o : Bool) → (IsTrue r ↔ asked) → (IsTrue o ↔ asked) → r ≡ o
+same_answer asked true true p q = refl
+same_answer asked true false p q = absurd (false≢true (q.1 (p.0 refl)))
+same_answer asked false true p q = absurd (false≢true (p.1 (q.0 refl)))
+same_answer asked false false p q = refl
 
 pub is-asked-one : OneReply 1 is-asked.Kinds.ps is-asked.Kinds.r is-asked.Reads.Post
-is-asked-one κs a r o e e' p q = same_answer r o (λ yes. q.1 (p.0 yes)) (λ yes. p.1 (q.0 yes))
+is-asked-one κs a r o e e' p q = same_answer _ r o p q
 
 pub counts-asked-one : OneReply 1 counts-asked.Kinds.ps counts-asked.Kinds.r counts-asked.Reads.Post
-counts-asked-one κs a r o e e' p q = same_answer r o (λ yes. q.1 (p.0 yes)) (λ yes. p.1 (q.0 yes))
+counts-asked-one κs a r o e e' p q = same_answer _ r o p q
 
 -- ---- numbers and lines
 
 pub decimal-one : OneReply 1 decimal.Kinds.ps decimal.Kinds.r decimal.Reads.Post
-decimal-one κs a r o e e' p q = p.0 ∙ sym q.0
+decimal-one κs a r o e e' p q = p ∙ sym q
 
 pub signed-decimal-one : OneReply 1 signed_decimal.Kinds.ps signed_decimal.Kinds.r signed_decimal.Reads.Post
 signed-decimal-one κs a r o e e' p q = p ∙ sym q
 
 pub line-of-one : OneReply 1 Line-of.Kinds.ps Line-of.Kinds.r Line-of.Reads.Post
 line-of-one κs a r o e e' p q = p ∙ sym q
-
-pub part-one : (κs : Lfts 1) (a : Dens κs part.Kinds.ps) (r o : (res_t part.Kinds.r κs).Denot)
-    (e e' : AtExit (ended_of 1 part.Kinds.ps part.Kinds.r) κs)
-    → part.Reads.Post κs a r e → part.Reads.Post κs a o e' → r.now ≡ o.now
-part-one κs a r o e e' p q = p ∙ sym q
 
 pub text-of-one : (κs : Lfts 1) (a : Dens κs text_of.Kinds.ps) (r o : (res_t text_of.Kinds.r κs).Denot)
     (e e' : AtExit (ended_of 1 text_of.Kinds.ps text_of.Kinds.r) κs)
@@ -77,8 +72,16 @@ first-of-one κs a r o e e' p q = p ∙ sym q
 
 -- ---- painting
 
--- where the same bytes were read and the reads went as well: the same panel is left, and the same counts, whatever the runtime that the
--- messages are said by and the reader that the lines come from
+same_told : (r o : Result (List ℕ) ReadFailed) (counts counts' : List ℕ)
+    → IfOk r (λ told. told ≡ counts) → IfOk o (λ told. told ≡ counts')
+    → is_ok r ≡ is_ok o → counts ≡ counts' → result_ok r ≡ result_ok o
+same_told (Ok told) (Ok told') counts counts' p q same e = ap Some (p ∙ e ∙ sym q)
+same_told (Ok told) (Err failed) counts counts' p q same e = absurd (false≢true (sym same))
+same_told (Err failed) (Ok told) counts counts' p q same e = absurd (false≢true same)
+same_told (Err failed) (Err failed') counts counts' p q same e = refl
+
+-- where the same bytes were read and the reads went as well: the same panel is left, and the same counts are answered, if any are, whatever
+-- the runtime that the messages are said by and the reader that the lines come from
 module _ (runtime reader : RattleType) (laws : Laws runtime) (reader_laws : Laws reader)
     (eprint : Eprint.Ghosts runtime.Denot) (dict : Dict) (read : Read.Ghosts reader.Denot) (read_dict : Dict) where
   pub paint-lines-one : (κs : Lfts 6) (a : Dens κs (paint-lines.Kinds.ps runtime reader laws reader_laws))
@@ -87,12 +90,14 @@ module _ (runtime reader : RattleType) (laws : Laws runtime) (reader_laws : Laws
       (ended_of 6 (paint-lines.Kinds.ps runtime reader laws reader_laws) (paint-lines.Kinds.r runtime reader laws reader_laws)) κs)
       (p : paint-lines.Reads.Post runtime reader laws reader_laws eprint dict read read_dict κs a r e)
       (q : paint-lines.Reads.Post runtime reader laws reader_laws eprint dict read read_dict κs a o e')
-      → r.whole ≡ o.whole → p.read ≡ q.read → counted e.1.1.1.1.0.now r.counts ≡ counted e'.1.1.1.1.0.now o.counts
+      → is_ok r ≡ is_ok o → p.read ≡ q.read → (result_ok r ≡ result_ok o) × (e.1.1.1.0.now ≡ e'.1.1.1.0.now)
   paint-lines-one κs a r o e e' p q same-reply same_bytes =
+      let dots =
       p.paints
       ∙ ap₂
       (λ (t : Bool) (l : List ℕ).
-      after_lines a.1.1.0.now a.1.1.1.0 (cond t (lines_of l) (ended [] l)) (counted a.1.1.1.1.0.now zeros))
+      after_lines a.1.1.0.font.now a.1.1.0.s (cond t (lines_of l) (ended [] l)) (counted a.1.1.1.0.now zeros))
       same-reply
       same_bytes
-      ∙ sym q.paints
+      ∙ sym q.paints in
+      (same_told r o _ _ p.told q.told same-reply (ap (λ (d : Dots). d.counts) dots), ap (λ (d : Dots). d.panel) dots)

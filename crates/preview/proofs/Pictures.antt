@@ -7,7 +7,8 @@ use native.Mathlib.Nat.{zero-add, mul-le-mul}
 use native.Mathlib.Omega.{arith}
 use lib.ListN.{length, take, drop, length-drop}
 use lib.Seq.{drop-drop}
-use borrow.Author.Tests.{lt-ltb, le-ltb}
+use Rattle.std.specs.Prelude.{decimal}
+use Rattle.std.proofs.lemmas.Fmt.{length-decimal-le}
 use Rattle.words.specs.Word.{word, bytes_of, over}
 use Rattle.words.proofs.Lists.{behind-front, rest-lent, nothing-behind}
 use Rattle.words.proofs.Tables.{joined_length}
@@ -16,16 +17,14 @@ use Rattle.words.proofs.Bytes.{bytes-length}
 use Rattle.paint.specs.declared.Shape.{Shape}
 use Rattle.paint.specs.Panel.{panel_words, bad_panel}
 use Rattle.paint.proofs.Accepted.{good-panel}
-use Rattle.preview.specs.Picture.{most_words, digit, leading, header_of, rows_of, picture_of, Put}
+use Rattle.preview.specs.Picture.{most_words, header_of, rows_of, picture_of, Put}
 use Rattle.preview.proofs.Putting.{put_first}
 
-pub no-leading : (n unit : ℕ) → n < unit → [] ≡ leading n unit
-unfolding leading
-no-leading n unit less = rw (lt-ltb n unit less)
-
-pub one-leading : (n unit : ℕ) → unit ≤ n → digit n unit ∷ [] ≡ leading n unit
-unfolding leading
-one-leading n unit more = rw (le-ltb n unit more)
+-- a number below 10,000 has at most four digits
+pub few_digits : {n : ℕ} {text bytes : List ℕ} → text ≡ decimal n → bytes ≡ text → n < 10000 → length bytes ≤ 4
+few_digits {n = n} spelt same small =
+    let few = length-decimal-le 4 n (omega arith) small (omega arith) in
+    omega (arith, ap length (same ∙ spelt))
 
 pub no-picture : (s : Shape) (panel : List ℕ) → bad_panel s (length panel ∷ []) ≡ true → picture_of s panel ≡ []
 unfolding picture_of
@@ -37,11 +36,12 @@ unfolding picture_of
 a-picture s panel good = rw good
 
 -- a panel that 8 does not refuse has its words, and no more than 32,768 of them
-pub few_words : (s : Shape) (room : ℕ) → bad_panel s (room ∷ []) ≡ false → (panel_words s ≤ room) × (panel_words s ≤ most_words)
+pub few_words : (s : Shape) (room : ℕ) → bad_panel s (room ∷ []) ≡ false
+    → (s.rowwords ≤ 128) × (s.rows ≤ 256) × (panel_words s ≤ room) × (panel_words s ≤ most_words)
 few_words s room good =
     let kept = good-panel s room good in
     let product = mul-le-mul {n₁ = s.rowwords} {m₁ = s.rows} {n₂ = 128} {m₂ = 256} kept.narrow kept.low in
-    (kept.long, product)
+    (kept.narrow, kept.low, kept.long, product)
 
 -- what is lent of a slice from its byte n on, and the slice when that comes back
 abbrev lent_from : ℕ → List ℕ → List ℕ

@@ -1,13 +1,13 @@
 -- Bytes put into a lent slice from a place on, one run behind the other.
-use Prim.Native.Nat.{ℕ, ◌+◌, ◌<◌, ◌≤◌}
+use Prim.Native.Nat.{ℕ, ◌+◌, ◌≤◌}
 use mathlib.Core.Path.{◌≡◌, refl, sym, ap, ap₂, ◌∙◌}
-use mathlib.Core.List.{List, [], ◌∷◌, ◌++◌, append_assoc}
-use native.Mathlib.Numerals.{add-one}
+use mathlib.Core.List.{List, [], ◌++◌, append_assoc}
 use native.Mathlib.Nat.{add-zero, zero-add}
 use native.Mathlib.Omega.{arith}
-use lib.ListN.{length, set, take, drop, take-append-drop}
-use lib.Seq.{set_split, take_at, drop_at, drop-drop, length-take-le}
+use lib.ListN.{length, take, drop, take-append-drop}
+use lib.Seq.{take_at, drop_at, drop-drop, length-take-le}
 use Rattle.words.proofs.Tables.{joined_length}
+use borrow.Rule.Slice.PartMut.{put_mid}
 use Rattle.preview.specs.Picture.{put_at, Put}
 
 pub put-none : (at : ℕ) (lent : List ℕ) → Put at [] lent at lent
@@ -30,11 +30,13 @@ first_counted {n = n} {xs = xs} {lent = lent} {l = l} put =
     let count = put.ends in
     omega arith
 
-pub put_one : (at b : ℕ) (lent : List ℕ) → at < length lent → Put at (b ∷ []) lent (at + 1) (set lent at b)
+pub put_run : (at k : ℕ) (bytes lent after : List ℕ) → k ≡ length bytes → after ≡ bytes
+    → Put at bytes lent (at + length bytes) (put_mid at k lent after)
 unfolding put_at
-put_one at b lent room = record {
+put_run at k bytes lent after many written = record {
   ends = refl;
-  leaves = set_split lent at b room ∙ ap (λ (k : ℕ). take at lent ++ (b ∷ drop k lent)) (sym (add-one at));
+  leaves = ap₂ (λ (l : List ℕ) (n : ℕ). take at lent ++ (l ++ drop n (drop at lent))) written many
+      ∙ ap (λ (l : List ℕ). take at lent ++ (bytes ++ l)) (drop-drop (length bytes) at lent);
 }
 
 -- one run behind the other is one run

@@ -1,16 +1,16 @@
 -- The lines of bytes are those that spell them: with newlines between them they are the bytes, and none has a newline in it. They are
 -- numbered one after the other.
-use Prim.Native.Nat.{ℕ, zero, suc, ◌+◌, ◌<◌, ◌≤◌}
+use Prim.Native.Nat.{ℕ, zero, suc, ◌+◌, ◌≤◌}
 use mathlib.Core.Path.{◌≡◌, refl, sym, ap₂, ◌∙◌}
 use mathlib.Core.Bool.{Bool, cond}
 use mathlib.Core.List.{List, [], ◌∷◌, ◌++◌, append-nil}
 use native.Mathlib.Omega.{arith}
-use lib.Dec.{eqb, ltb}
+use lib.Dec.{eqb}
 use lib.ListN.{length, get_or}
 use lib.Seq.{append_snoc}
-use borrow.Author.Tests.{eqb-true, eqb-false, ne_eqb}
-use Rattle.preview.specs.declared.painting.Lines.{Lines}
-use Rattle.preview.specs.Lines.{ended, unended, lines_of, most, last_number, next_line, longer_line, lines_after}
+use borrow.Author.Tests.{eqb-true, eqb-false}
+use Rattle.preview.specs.Begun.{Begun, last_number, next_line, longer_line}
+use Rattle.preview.specs.Lines.{ended, unended, lines_of, line_after}
 use Rattle.preview.proofs.Cutting.{by-test}
 
 -- lines with a newline between each and the next
@@ -89,36 +89,18 @@ lines-unbroken bytes = unbroken-from [] bytes nothing-unbroken
 
 -- ---- they are numbered one after the other
 
-next-number : (lines : Lines) → lines.number < last_number → (next_line lines).number ≡ lines.number + 1
-unfolding next_line
-next-number lines more = let small = ne_eqb lines.number last_number (λ e. omega arith) in rw small
-
-same_number : (lines : Lines) → (longer_line lines).number ≡ lines.number
-unfolding longer_line
-same_number lines =
-    by-test
-    (λ (t : Bool).
-    (cond {A = Lines} t (record { number = lines.number; length = lines.length + 1 }) lines).number ≡ lines.number)
-    refl
-    refl
-    (ltb lines.length most)
-
 -- as long as the numbers last, each line that has ended counts one
-pub lines-numbered : (begun bytes : List ℕ) (lines : Lines) → lines.number + length (ended begun bytes) ≤ last_number
-    → (lines_after bytes lines).number ≡ lines.number + length (ended begun bytes)
-unfolding ended lines_after
-lines-numbered begun [] lines few = omega arith
-lines-numbered begun (b ∷ bytes) lines few =
+pub lines-numbered : (begun bytes : List ℕ) (line : Begun) → line.number + length (ended begun bytes) ≤ last_number
+    → (line_after bytes line).number ≡ line.number + length (ended begun bytes)
+unfolding ended line_after next_line longer_line
+lines-numbered begun [] line few = omega arith
+lines-numbered begun (b ∷ bytes) line few =
     by-test
     (λ (t : Bool).
-    lines.number + length (cond t (begun ∷ ended [] bytes) (ended (begun ++ (b ∷ [])) bytes)) ≤ last_number
-    → (lines_after bytes (cond t (next_line lines) (longer_line lines))).number
-    ≡ lines.number + length (cond t (begun ∷ ended [] bytes) (ended (begun ++ (b ∷ [])) bytes)))
-    (λ few'.
-    let next = next-number lines (omega arith) in
-    let rest = lines-numbered [] bytes (next_line lines) (omega arith) in omega arith)
-    (λ few'.
-    let same = same_number lines in
-    let rest = lines-numbered (begun ++ (b ∷ [])) bytes (longer_line lines) (omega arith) in omega arith)
+    line.number + length (cond t (begun ∷ ended [] bytes) (ended (begun ++ (b ∷ [])) bytes)) ≤ last_number
+    → (line_after bytes (cond t (next_line line) (longer_line b line))).number
+    ≡ line.number + length (cond t (begun ∷ ended [] bytes) (ended (begun ++ (b ∷ [])) bytes)))
+    (λ few'. let rest = lines-numbered [] bytes (next_line line) (omega arith) in omega arith)
+    (λ few'. let rest = lines-numbered (begun ++ (b ∷ [])) bytes (longer_line b line) (omega arith) in omega arith)
     (eqb b 10)
     few

@@ -1,9 +1,9 @@
 -- When help is asked for, by docs/PROGRAMS.md, "preview": "`preview --help` prints".
-use Rattle.std.specs.Prelude.{ℕ, ◌≡◌, List, [], ◌∷◌}
+use Rattle.std.specs.Prelude.{ℕ, ◌≡◌, List, codes}
 
--- `--help` in bytes
+-- in bytes
 abbrev pub help_word : List ℕ
-help_word = 45 ∷ 45 ∷ 104 ∷ 101 ∷ 108 ∷ 112 ∷ []
+help_word = codes "--help"
 
 -- The program's name and the word, and no other argument.
 pub record HelpAsked (count : ℕ) (first : List ℕ) : Type 0 where

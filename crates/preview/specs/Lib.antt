@@ -1,3 +1,4 @@
+pub mod Begun
 pub mod Help
 pub mod Line
 pub mod Lines

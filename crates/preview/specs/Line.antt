@@ -1,13 +1,13 @@
 -- A line of labels, by docs/PROGRAMS.md, "preview": "STRIP X Y MODE TEXT, with one space behind each number".
-use Rattle.std.specs.Prelude.{ℕ, suc, ◌+◌, ◌-◌, cond, List, [], ◌∷◌, ltb, eqb, length, get_or, take, drop}
+use Rattle.std.specs.Prelude.{ℕ, ℤ, suc, ◌+◌, ◌-◌, cond, List, [], ◌∷◌, ltb, eqb, length, get_or, take, drop, Option, None, Some}
+use Rattle.std.specs.Option.{option_and_then, option_map}
 use Rattle.paint.specs.declared.Shape.{Shape}
 use Rattle.paint.specs.Label.{call_of, paint_after}
 use Rattle.counts.specs.Calls.{paint_counted}
-use Rattle.preview.specs.declared.number.Signed.{Signed}
-use Rattle.preview.specs.declared.number.Signed.TheVariants.{Number, Other as noNumber}
+use Rattle.paint.specs.declared.Label.{Label}
 use Rattle.preview.specs.declared.label.Line.{Line}
-use Rattle.preview.specs.declared.label.Line.TheVariants.{Label, Passed, Other}
-use Rattle.preview.specs.Number.{none, number_of, signed_of}
+use Rattle.preview.specs.declared.label.Line.TheVariants.{Label as a_label, Passed, Other}
+use Rattle.preview.specs.Number.{number_of, signed_of}
 
 -- "A carriage return at its end is no part of it": where the last byte is 13, all bytes before it
 unfoldable pub without_return : List ℕ → List ℕ
@@ -29,22 +29,26 @@ behind text = drop (word_length text + 1) text
 unfoldable pub text_of : List ℕ → List ℕ
 text_of line = behind (behind (behind (behind (without_return line))))
 
--- no label: "The line is not spelled so, or a number does not fit its type"
-unfoldable pub label_from : ℕ → Signed → Signed → ℕ → Line
-label_from strip noNumber down mode = Other
-label_from strip (Number x) noNumber mode = Other
-label_from strip (Number x) (Number y) mode =
-    cond (eqb strip none) Other
-    (cond (eqb mode none) Other
-    (Label (record { strip = strip; x = x; y = y; mode = mode })))
+-- a label, where all four are numbers
+unfoldable pub label_from : Option ℕ → Option ℤ → Option ℤ → Option ℕ → Option Label
+label_from strip left down mode =
+    option_and_then
+    (λ strip. option_and_then
+    (λ x. option_and_then
+    (λ y. option_map (λ mode. record { strip = strip; x = x; y = y; mode = mode }) mode) down) left) strip
 
-unfoldable pub label_of : List ℕ → Line
+unfoldable pub label_of : List ℕ → Option Label
 label_of line =
     label_from
     (number_of (word_of line))
     (signed_of (word_of (behind line)))
     (signed_of (word_of (behind (behind line))))
     (number_of (word_of (behind (behind (behind line)))))
+
+-- no label: "The line is not spelled so, or a number does not fit its type"
+abbrev pub line_with : Option Label → Line
+line_with None = Other
+line_with (Some l) = a_label l
 
 -- the most bytes of a label's line, without its return
 abbrev pub longest : ℕ
@@ -54,7 +58,7 @@ longest = 1000
 -- label, however short its text, unless it is a comment."
 unfoldable pub kind_of : List ℕ → Line
 kind_of [] = Passed
-kind_of (b ∷ bytes) = cond (eqb b 35) Passed (cond (ltb longest (length (b ∷ bytes))) Other (label_of (b ∷ bytes)))
+kind_of (b ∷ bytes) = cond (eqb b 35) Passed (cond (ltb longest (length (b ∷ bytes))) Other (line_with (label_of (b ∷ bytes))))
 
 -- any line
 unfoldable pub line_of : List ℕ → Line
@@ -70,7 +74,7 @@ counted panel counts = record { panel = panel; counts = counts }
 
 -- what is left after a line: its label is painted, with the counts, and any other line changes nothing
 unfoldable pub painted : List ℕ → Shape → Line → List ℕ → Dots → Dots
-painted font s (Label l) text dots =
+painted font s (a_label l) text dots =
     let after = paint_counted s (call_of font l text) dots.panel dots.counts in
     counted after.panel after.counts
 painted font s Passed text dots = dots
@@ -81,7 +85,7 @@ after_line font s line dots = painted font s (line_of line) (text_of line) dots
 
 -- and the panel that is left where no counts are kept
 unfoldable pub plain_painted : List ℕ → Shape → Line → List ℕ → List ℕ → List ℕ
-plain_painted font s (Label l) text panel = paint_after s (call_of font l text) panel
+plain_painted font s (a_label l) text panel = paint_after s (call_of font l text) panel
 plain_painted font s Passed text panel = panel
 plain_painted font s Other text panel = panel
 

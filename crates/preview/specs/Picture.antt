@@ -1,5 +1,5 @@
 -- The picture of a panel, by docs/DECISIONS.md, "The preview program": "A PBM picture of the kind P4".
-use Rattle.std.specs.Prelude.{ℕ, ◌+◌, ◌*◌, ◌/◌, ◌%◌, ◌≡◌, cond, List, [], ◌∷◌, ◌++◌, ltb, length, take, drop}
+use Rattle.std.specs.Prelude.{ℕ, ◌+◌, ◌*◌, ◌≡◌, cond, List, [], ◌∷◌, ◌++◌, length, take, drop, codes, decimal}
 use Rattle.words.specs.Word.{bytes_of}
 use Rattle.paint.specs.declared.Shape.{Shape}
 use Rattle.paint.specs.Panel.{panel_words, bad_panel}
@@ -16,21 +16,9 @@ header_bytes = 13
 abbrev pub picture_bytes : ℕ
 picture_bytes = header_bytes + 2 * most_words
 
--- the digit of a number that counts its units of so many, in ASCII
-unfoldable pub digit : ℕ → ℕ → ℕ
-digit n unit = 48 + n / unit % 10
-
--- a digit that stands only where the number has one of that unit
-unfoldable pub leading : ℕ → ℕ → List ℕ
-leading n unit = cond (ltb n unit) [] (digit n unit ∷ [])
-
--- a number below 10,000 in decimal, with no zeros before it
-unfoldable pub decimal : ℕ → List ℕ
-decimal n = leading n 1000 ++ (leading n 100 ++ (leading n 10 ++ (digit n 1 ∷ [])))
-
--- "P4", a newline, the columns, a space, the rows, a newline
+-- "P4", a newline, the columns in decimal, a space, the rows, a newline
 unfoldable pub header_of : Shape → List ℕ
-header_of s = 80 ∷ 52 ∷ 10 ∷ (decimal (16 * s.rowwords) ++ (32 ∷ (decimal s.rows ++ (10 ∷ []))))
+header_of s = codes "P4\n" ++ (decimal (16 * s.rowwords) ++ (codes " " ++ (decimal s.rows ++ codes "\n")))
 
 -- "a row of it is the row's words, high byte first, with 1 for a lit dot"
 abbrev pub rows_of : Shape → List ℕ → List ℕ

@@ -1,9 +1,9 @@
 -- When the counts are asked for, by docs/PROGRAMS.md, "preview": "`--counts` is the first of five arguments".
-use Rattle.std.specs.Prelude.{ℕ, ◌≡◌, List, [], ◌∷◌}
+use Rattle.std.specs.Prelude.{ℕ, ◌≡◌, List, codes}
 
--- `--counts` in bytes
+-- in bytes
 abbrev pub counts_word : List ℕ
-counts_word = 45 ∷ 45 ∷ 99 ∷ 111 ∷ 117 ∷ 110 ∷ 116 ∷ 115 ∷ []
+counts_word = codes "--counts"
 
 -- The program's name, the word, and four arguments more.
 pub record CountsAsked (count : ℕ) (first : List ℕ) : Type 0 where

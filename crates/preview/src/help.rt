@@ -1,37 +1,18 @@
 // The help text, and the argument that asks for it.
-ghost use Rattle.std.specs.Prelude.{◌≡◌, true};
+ghost use Rattle.std.specs.Prelude.{IsTrue, ◌↔◌};
 ghost use Rattle.preview.specs.Help.{HelpAsked};
 
-use crate::message::say_written;
-
-pub fn same(a: &[u8], b: &[u8]) -> bool
-    ensures { (result ≡ true → a.now ≡ b.now) × (a.now ≡ b.now → result ≡ true) }
-{
-    if a.len() != b.len() {
-        return false;
-    }
-    let mut i = 0;
-    while i < a.len() {
-        if a[i] != b[i] {
-            return false;
-        }
-        i += 1;
-    }
-    true
-}
+use crate::message::Failure;
 
 // Whether `--help` is the only argument. The name of the program is counted too.
 pub fn is_asked(count: usize, first: &[u8]) -> bool
-    ensures { (result ≡ true → HelpAsked count first.now) × (HelpAsked count first.now → result ≡ true) }
+    ensures { IsTrue result ↔ HelpAsked count first.now }
 {
-    if count != 2 {
-        return false;
-    }
-    same(first, b"--help")
+    count == 2 && first == b"--help".as_slice()
 }
 
-pub fn print(rt: &(impl Print + Eprint)) {
-    let printed = rt.print(
+pub fn print(rt: &impl Print) -> Result<(), Failure> {
+    rt.print(
         "usage: preview [--counts] FONT R H W < LINES > PICTURE
 
 Paints labels on a panel and writes a picture of it (PBM, kind P4).
@@ -48,6 +29,6 @@ Empty lines, and lines that begin with #, are passed over.
 What is wrong with a line, and how many codes of it the font does not have, is said on standard error; the rest is painted all the same.
 With --counts the lit dots of each strip are told on standard error, one line a strip.
 ",
-    );
-    say_written(rt, printed.is_ok());
+    )
+    .map_err(|_| Failure::Unwritten)
 }

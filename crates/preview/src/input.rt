@@ -1,10 +1,9 @@
 // Reading: from standard input, a file, and the arguments.
-ghost use Rattle.std.specs.Prelude.{◌≡◌, true, false, take};
+ghost use Rattle.std.specs.Prelude.{◌≡◌, take, IfOk, IfErr};
 ghost use Rattle.std.specs.Io.KnownBytes.{Consumes, IsAtEnd};
-ghost use Rattle.reading.specs.Counts.{IsPrefixLen};
+ghost use Rattle.reading.specs.Counts.{IsPrefixLen, bytes_read};
 
-use crate::number::part;
-use reading::{BYTES, Input};
+use reading::{BYTES, ReadFailed};
 use std::env::FillError;
 use std::io::Read;
 use std::rt::{Env, Files};
@@ -13,49 +12,31 @@ use std::{fs, str};
 // The most bytes that are taken of an argument: no path has more.
 pub const ARGUMENT: usize = 4_096;
 
+// Nothing was read.
+const UNREAD: ReadFailed = ReadFailed { bytes: 0 };
+
 // The first bytes of a buffer. A callee that takes the array needs no proof of its length.
 pub fn first_of(bytes: &[u8; BYTES], count: usize) -> &[u8]
     ensures { result.now ≡ take count bytes.now }
 {
-    part(bytes, 0, count)
-}
-
-// Nothing that was read, since it could not be.
-fn unread() -> Input
-    ensures failed { result.failed ≡ true }
-    ensures bytes { result.bytes ≡ 0 }
-{
-    Input {
-        failed: true,
-        bytes: 0,
-    }
+    &bytes[..count.min(BYTES)]
 }
 
 // Reads once from standard input; no bytes where it has ended.
-pub fn read_some<R: Read>(from: &mut R, bytes: &mut [u8; BYTES]) -> Input
-    ensures prefix_len { IsPrefixLen result.bytes bytes.new }
-    ensures failed { result.failed ≡ true → result.bytes ≡ 0 }
-    ensures taken { Consumes (R.remaining from.old) (R.remaining from.new) (take result.bytes bytes.new) }
-    ensures over { result.failed ≡ false → result.bytes ≡ 0 → IsAtEnd (R.remaining from.new) }
+pub fn read_some<R: Read>(from: &mut R, bytes: &mut [u8; BYTES]) -> Result<usize, ReadFailed>
+    ensures prefix_len { IsPrefixLen (bytes_read result) bytes.new }
+    ensures failed { IfErr result (λ failed. failed.bytes ≡ 0) }
+    ensures taken { Consumes (R.remaining from.old) (R.remaining from.new) (take (bytes_read result) bytes.new) }
+    ensures over { IfOk result (λ count. count ≡ 0 → IsAtEnd (R.remaining from.new)) }
 {
-    match from.read(bytes) {
-        Ok(count) => Input {
-            failed: false,
-            bytes: count,
-        },
-        Err(_) => unread(),
-    }
+    from.read(bytes).map_err(|_| ReadFailed { bytes: 0 })
 }
 
-pub fn read_file(rt: &impl Files, path: &[u8], space: &mut [u8; BYTES]) -> Input
-    ensures { IsPrefixLen result.bytes space.new }
+pub fn read_file(rt: &impl Files, path: &[u8], space: &mut [u8; BYTES]) -> Result<usize, ReadFailed>
+    ensures { IsPrefixLen (bytes_read result) space.new }
 {
-    let Ok(name) = str::from_utf8(path) else {
-        return unread();
-    };
-    let Ok(mut file) = fs::open(rt, name) else {
-        return unread();
-    };
+    let name = str::from_utf8(path).map_err(|_| UNREAD)?;
+    let mut file = fs::open(rt, name).map_err(|_| UNREAD)?;
     reading::read(&mut file, space)
 }
 
@@ -63,10 +44,7 @@ pub fn read_file(rt: &impl Files, path: &[u8], space: &mut [u8; BYTES]) -> Input
 pub fn argument(rt: &impl Env, k: usize, text: &mut [u8; ARGUMENT]) -> usize
     ensures { IsPrefixLen result text.new }
 {
-    match rt.arg(k, text) {
-        Ok(count) => count,
-        Err(_) => 0,
-    }
+    rt.arg(k, text).unwrap_or(0)
 }
 
 // How many arguments there are. The name of the program is counted too.

@@ -1,10 +1,9 @@
 // Reading a line: STRIP X Y MODE TEXT.
 ghost use Rattle.std.specs.Prelude.{◌≡◌, ◌≤◌, length};
-ghost use Rattle.preview.specs.Number.{none};
 ghost use Rattle.preview.specs.Line.{without_return, word_length, word_of, behind as Line·behind};
-ghost use Rattle.preview.specs.Line.{text_of, label_from, label_of, kind_of, line_of};
+ghost use Rattle.preview.specs.Line.{text_of, label_of, kind_of, line_of};
 
-use crate::number::{NONE, Signed, decimal, part, signed_decimal};
+use crate::number::{decimal, signed_decimal};
 use paint::Label;
 
 // The most bytes of a label's line, without its return.
@@ -18,109 +17,83 @@ pub enum Line {
 }
 
 // A line without the carriage return at its end.
+#[tactic(auto, unfolding(crate::specs::Line::without_return))]
 fn without_return(line: &[u8]) -> &[u8]
     ensures { result.now ≡ without_return line.now }
 {
-    let length = line.len();
-    if length == 0 {
-        return line;
+    match line {
+        [before @ .., b'\r'] => before,
+        _ => line,
     }
-    if line[length - 1] == b'\r' {
-        return part(line, 0, length - 1);
-    }
-    line
 }
 
 // How many bytes stand before the first space.
+#[tactic(auto, unfolding(crate::specs::Line::word_length))]
 fn word_length(text: &[u8]) -> usize
     ensures value { result ≡ word_length text.now }
     ensures small { result ≤ length text.now }
 {
-    let mut i = 0;
-    while i < text.len() {
-        if text[i] == b' ' {
+    for (i, b) in text.iter().enumerate() {
+        if *b == b' ' {
             return i;
         }
-        i += 1;
     }
-    i
+    text.len()
 }
 
+#[tactic(auto, unfolding(crate::specs::Line::word_of))]
 fn word(text: &[u8]) -> &[u8]
     ensures { result.now ≡ word_of text.now }
 {
-    part(text, 0, word_length(text))
+    &text[..word_length(text)]
 }
 
 // The bytes behind the first space.
+#[tactic(auto, unfolding(crate::specs::Line::behind))]
 fn behind(text: &[u8]) -> &[u8]
     ensures { result.now ≡ Line·behind text.now }
 {
-    part(text, word_length(text) + 1, text.len())
+    text.get(word_length(text) + 1..).unwrap_or(&[])
 }
 
 // The text of a label's line.
+#[tactic(auto, unfolding(crate::specs::Line::text_of))]
 pub fn text_of(line: &[u8]) -> &[u8]
     ensures { result.now ≡ text_of line.now }
 {
     behind(behind(behind(behind(without_return(line)))))
 }
 
-fn label_from(strip: u64, left: Signed, down: Signed, mode: u64) -> Line
-    requires { (strip ≤ none) × (mode ≤ none) }
-    ensures { result ≡ label_from strip left down mode }
-{
-    let Signed::Number(x) = left else {
-        return Line::Other;
-    };
-    let Signed::Number(y) = down else {
-        return Line::Other;
-    };
-    if strip == NONE {
-        return Line::Other;
-    }
-    if mode == NONE {
-        return Line::Other;
-    }
-    Line::Label(Label {
-        strip: strip as u32,
-        x,
-        y,
-        mode: mode as u32,
-    })
-}
-
 // The label of a line, if it is one.
-fn label_of(line: &[u8]) -> Line
+#[tactic(auto, unfolding(crate::specs::Line::label_of, crate::specs::Line::label_from))]
+fn label_of(line: &[u8]) -> Option<Label>
     ensures { result ≡ label_of line.now }
 {
     let second = behind(line);
     let third = behind(second);
     let fourth = behind(third);
-    let strip = decimal(word(line));
-    let left = signed_decimal(word(second));
-    let down = signed_decimal(word(third));
-    let mode = decimal(word(fourth));
-    label_from(strip, left, down, mode)
+    Some(Label {
+        strip: decimal(word(line))?,
+        x: signed_decimal(word(second))?,
+        y: signed_decimal(word(third))?,
+        mode: decimal(word(fourth))?,
+    })
 }
 
 // What a line without its return is.
+#[tactic(auto, unfolding(crate::specs::Line::kind_of))]
 fn kind_of(line: &[u8]) -> Line
     ensures { result ≡ kind_of line.now }
 {
-    if line.len() == 0 {
-        return Line::Passed;
+    match line {
+        [] | [b'#', ..] => Line::Passed,
+        _ if LONGEST < line.len() => Line::Other,
+        _ => label_of(line).map_or(Line::Other, Line::Label),
     }
-    if line[0] == b'#' {
-        return Line::Passed;
-    }
-    if LONGEST < line.len() {
-        return Line::Other;
-    }
-    label_of(line)
 }
 
 // What a line is.
+#[tactic(auto, unfolding(crate::specs::Line::line_of))]
 pub fn line_of(line: &[u8]) -> Line
     ensures { result ≡ line_of line.now }
 {

@@ -12,15 +12,15 @@ mod picture;
 mod tell;
 
 ghost use Rattle.std.specs.Prelude.{◌≤◌};
-ghost use Rattle.preview.specs.Number.{none};
 
 use input::{ARGUMENT, argument, argument_count};
-use message::{say, say_refused, say_written};
-use number::NONE;
+use message::{Failure, say};
 use paint::Shape;
+use painting::Painter;
 use picture::PRINTED;
 use reading::BYTES;
 use std::rt::{Env, Files};
+use words::Refusal;
 
 // The words of the longest font file.
 const FONT: usize = 32_768;
@@ -31,143 +31,98 @@ const PANEL: usize = 32_768;
 // The longest font file.
 const FILE: usize = 65_536;
 
-// The shape that the arguments tell, if they are a font and three numbers.
-#[derive(Clone, Copy)]
-enum Arguments {
-    Panel(Shape),
-    Wrong,
-}
-
-// Writes the picture, and answers whether it was written whole.
-fn print(rt: &(impl Print + Eprint), s: Shape, panel: &[u16]) -> bool {
+// Writes the picture.
+fn print(rt: &impl Print, s: Shape, panel: &[u16]) -> Result<(), Failure> {
     let mut printed = [0u8; PRINTED];
     let n = picture::picture(s, panel, &mut printed);
-    let whole = rt.write_all(&printed[..n]).is_ok();
-    say_written(rt, whole);
-    whole
+    rt.write_all(&printed[..n]).map_err(|_| Failure::Unwritten)
 }
 
-// The whole run, with a font that is not refused.
-fn run(rt: &(impl Input + Print + Eprint), font: &[u16], s: Shape, counts_asked: bool) {
+// Paints all lines with a font that is not refused, writes the picture, and answers the lit dots of the strips.
+fn run(rt: &(impl Input + Print + Eprint), font: &[u16], s: Shape) -> Result<[u32; 32], Failure> {
     let mut panel = [0u16; PANEL];
-    if paint::bad_panel(s, panel.len()) {
-        say(rt, "panel");
-        say_refused(rt, 8);
-        return;
-    }
-    let answer = painting::paint_lines(rt, &mut rt.reader(), font, s, &mut panel);
-    if !answer.whole {
-        say(rt, "read failed\n");
-        return;
-    }
-    if !print(rt, s, &panel) {
-        return;
-    }
-    let counts = answer.counts;
-    if counts_asked {
-        tell::print(rt, counts);
-    }
+    paint::check_panel(s, panel.len()).map_err(Failure::PanelRefused)?;
+    let painter = Painter { font, s };
+    let counts = painting::paint_lines(rt, &mut rt.reader(), painter, &mut panel).map_err(
+        |_| Failure::Unread,
+    )?;
+    print(rt, s, &panel)?;
+    Ok(counts)
 }
 
-// The whole run, with the bytes of a font.
-fn run_with(rt: &(impl Input + Print + Eprint), bytes: &[u8], s: Shape, counts_asked: bool) {
+// The same with the bytes of a font.
+fn run_with(
+    rt: &(impl Input + Print + Eprint),
+    bytes: &[u8],
+    s: Shape,
+) -> Result<[u32; 32], Failure> {
     if FILE < bytes.len() {
-        say(rt, "font: too long\n");
-        return;
+        return Err(Failure::FontTooLong);
     }
     if words::odd_bytes(bytes) {
-        say(rt, "font");
-        say_refused(rt, 14);
-        return;
+        return Err(Failure::FontRefused(Refusal::OddBytes));
     }
     let mut space = [0u16; FONT];
     let n = words::from_bytes(bytes, &mut space);
-    let font = words::part(&space, 0, n);
-    let refusal = fonts::number(font);
-    if refusal != 0 {
-        say(rt, "font");
-        say_refused(rt, refusal);
-        return;
-    }
-    run(rt, font, s, counts_asked);
+    let font = &space[..n];
+    fonts::read(font).map_err(Failure::FontRefused)?;
+    run(rt, font, s)
 }
 
-// The whole run, with a shape, and the font's name in argument k.
+// The same with a font whose name is argument k.
 fn run_file(
     rt: &(impl Files + Env + Input + Print + Eprint),
     k: usize,
     s: Shape,
-    counts_asked: bool,
-) {
+) -> Result<[u32; 32], Failure> {
     let mut path = [0u8; ARGUMENT];
     let n = argument(rt, k, &mut path);
     let mut bytes = [0u8; BYTES];
-    let file = input::read_file(rt, &path[..n], &mut bytes);
-    if file.failed {
-        say(rt, "font: cannot be read\n");
-        return;
-    }
-    run_with(rt, input::first_of(&bytes, file.bytes), s, counts_asked);
+    let count = input::read_file(rt, &path[..n], &mut bytes).map_err(|_| Failure::FontUnread)?;
+    run_with(rt, input::first_of(&bytes, count), s)
 }
 
-// Number k of the program's arguments, or NONE.
-fn number_argument(rt: &impl Env, k: usize) -> u64
-    ensures { result ≤ none }
-{
+// Number k of the program's arguments, if it is one.
+fn number_argument(rt: &impl Env, k: usize) -> Option<u32> {
     let mut text = [0u8; ARGUMENT];
     let n = argument(rt, k, &mut text);
     number::decimal(&text[..n])
 }
 
-// Reads the arguments from number k on, where the font's name is.
-fn read_arguments(rt: &impl Env, k: usize) -> Arguments
+// The shape that the arguments tell from number k on, where the font's name is, if they are a font and three numbers.
+fn read_arguments(rt: &impl Env, k: usize) -> Option<Shape>
     requires { k ≤ 2 }
 {
     if argument_count(rt) != k + 4 {
-        return Arguments::Wrong;
+        return None;
     }
-    let rowwords = number_argument(rt, k + 1);
-    let rows = number_argument(rt, k + 2);
-    let width = number_argument(rt, k + 3);
-    if rowwords == NONE {
-        return Arguments::Wrong;
-    }
-    if rows == NONE {
-        return Arguments::Wrong;
-    }
-    if width == NONE {
-        return Arguments::Wrong;
-    }
-    Arguments::Panel(Shape {
-        rowwords: rowwords as u32,
-        rows: rows as u32,
-        width: width as u32,
+    Some(Shape {
+        rowwords: number_argument(rt, k + 1)?,
+        rows: number_argument(rt, k + 2)?,
+        width: number_argument(rt, k + 3)?,
     })
 }
 
-// The whole run, with the arguments from number k on.
-fn run_arguments(rt: &(impl Files + Env + Input + Print + Eprint), k: usize, counts_asked: bool)
-    requires { k ≤ 2 }
-{
-    let told = read_arguments(rt, k);
-    let Arguments::Panel(s) = told else {
-        say(rt, "usage: preview [--counts] FONT R H W\n");
-        return;
-    };
-    run_file(rt, k, s, counts_asked);
+// The whole run: what the arguments ask for.
+fn run_arguments(rt: &(impl Files + Env + Input + Print + Eprint)) -> Result<(), Failure> {
+    let mut first = [0u8; ARGUMENT];
+    let n = argument(rt, 1, &mut first);
+    let count = argument_count(rt);
+    if help::is_asked(count, &first[..n]) {
+        return help::print(rt);
+    }
+    let counts_asked = tell::is_asked(count, &first[..n]);
+    let k = if counts_asked { 2 } else { 1 };
+    let s = read_arguments(rt, k).ok_or(Failure::Usage)?;
+    let counts = run_file(rt, k, s)?;
+    if counts_asked {
+        tell::print(rt, counts);
+    }
+    Ok(())
 }
 
 fn main(rt: HostRuntime) {
-    let mut first = [0u8; ARGUMENT];
-    let n = argument(&rt, 1, &mut first);
-    let count = argument_count(&rt);
-    if help::is_asked(count, &first[..n]) {
-        help::print(&rt);
-        return;
+    if let Err(failure) = run_arguments(&rt) {
+        say(&rt, failure);
     }
-    if tell::is_asked(count, &first[..n]) {
-        run_arguments(&rt, 2, true);
-        return;
-    }
-    run_arguments(&rt, 1, false);
 }

@@ -1,75 +1,62 @@
 // What is said on standard error.
 use paint::Reply;
+use std::fmt;
+use words::Refusal;
 
-// Where standard error cannot be written either, there is nowhere left to say so.
-pub fn say(rt: &impl Eprint, text: &str) {
-    let _ = rt.eprint(text);
-}
+// A refusal's number and its message.
+#[derive(Clone, Copy)]
+struct Refused(Refusal);
 
-// What there is to say of a writing, by whether it was whole.
-pub fn say_written(rt: &impl Eprint, whole: bool) {
-    if !whole {
-        say(rt, "write failed\n");
+impl fmt::Display for Refused {
+    fn fmt<W: fmt::Write>(&self, f: &mut fmt::Formatter<W>) -> fmt::Result {
+        let refusal = self.0;
+        write!(f, "refused {}: {refusal}", refusal.number())
     }
 }
 
-pub fn say_number(rt: &impl Eprint, number: u64) {
-    let _ = rt.eprint(number);
+// Why there is no picture, or a part of one.
+#[derive(Clone, Copy)]
+pub enum Failure {
+    Usage,
+    FontUnread,
+    FontTooLong,
+    FontRefused(Refusal),
+    PanelRefused(Refusal),
+    Unread,
+    Unwritten,
 }
 
-pub fn say_line(rt: &impl Eprint, number: u64) {
-    say(rt, "line ");
-    say_number(rt, number);
-}
-
-// The message of a refusal of a font, a panel or a label. The program meets no other.
-fn say_message(rt: &impl Eprint, refusal: u32) {
-    match refusal {
-        14 => say(rt, "odd number of bytes"),
-        1 => say(rt, "font file too short for its header"),
-        2 => say(rt, "not a plain or kerned strike file"),
-        3 => say(rt, "font codes out of order or over 255"),
-        15 => say(rt, "index: number of bodies not 1 to 128"),
-        4 => say(rt, "size in the font's header out of range"),
-        5 => say(rt, "font's length is not what its header says"),
-        6 => say(rt, "font's column pointers out of order or past the bitmap"),
-        16 => say(rt, "index: a code names no picture"),
-        7 => say(rt, "font has no dummy character"),
-        8 => say(rt, "panel size out of range, or its memory too short"),
-        9 => say(rt, "strip over 31"),
-        10 => say(rt, "x or y not -1024 to 1023"),
-        11 => say(rt, "label over 64 bytes"),
-        12 => say(rt, "mode over 2"),
-        30 => say(rt, "lit dots of a strip out of range"),
-        _ => say(rt, "unknown number"),
+impl fmt::Display for Failure {
+    fn fmt<W: fmt::Write>(&self, f: &mut fmt::Formatter<W>) -> fmt::Result {
+        match self {
+            Failure::Usage => f.write_str("usage: preview [--counts] FONT R H W"),
+            Failure::FontUnread => f.write_str("font: cannot be read"),
+            Failure::FontTooLong => f.write_str("font: too long"),
+            Failure::FontRefused(refusal) => write!(f, "font: {}", Refused(*refusal)),
+            Failure::PanelRefused(refusal) => write!(f, "panel: {}", Refused(*refusal)),
+            Failure::Unread => f.write_str("read failed"),
+            Failure::Unwritten => f.write_str("write failed"),
+        }
     }
 }
 
-pub fn say_refused(rt: &impl Eprint, refusal: u32) {
-    say(rt, ": refused ");
-    say_number(rt, refusal as u64);
-    say(rt, ": ");
-    say_message(rt, refusal);
-    say(rt, "\n");
-}
-
-fn say_substitutes(rt: &impl Eprint, number: u64, substitutes: u32) {
-    if substitutes == 0 {
-        return;
-    }
-    say_line(rt, number);
-    say(rt, ": codes shown as the dummy: ");
-    say_number(rt, substitutes as u64);
-    say(rt, "\n");
+// Says a line. Where standard error cannot be written either, there is nowhere left to say so.
+pub fn say(rt: &impl Eprint, line: impl fmt::Display + Drop) {
+    let _ = rt.eprintln(line);
 }
 
 // What there is to say of the label of a line.
 pub fn say_reply(rt: &impl Eprint, number: u64, reply: Reply) {
     match reply {
-        Reply::Done(finish) => say_substitutes(rt, number, finish.substitutes),
-        Reply::Refused(refusal) => {
-            say_line(rt, number);
-            say_refused(rt, refusal);
+        Ok(finish) => {
+            let substitutes = finish.substitutes;
+            if substitutes != 0 {
+                say(
+                    rt,
+                    format_args!("line {number}: codes shown as the dummy: {substitutes}"),
+                );
+            }
         }
+        Err(refusal) => say(rt, format_args!("line {number}: {}", Refused(refusal))),
     }
 }

@@ -1,103 +1,54 @@
 // Reading decimal numbers.
-ghost use Rattle.std.specs.Prelude.{◌≡◌, ◌≤◌, take, drop};
-ghost use Rattle.preview.specs.Number.{none, with_digit, number_of, positive_of, negative_of, signed_of};
+ghost use Rattle.std.specs.Prelude.{◌≡◌};
+ghost use Rattle.preview.specs.Number.{with_digit, number_of, positive_of, negative_of, signed_of};
 
-// What stands for a text that is no number of a u32.
-pub const NONE: u64 = 4_294_967_296;
-
-// The largest number of an i32.
-const LARGEST: u64 = 2_147_483_647;
-
-// The least number of an i32, without its sign.
-const LEAST: u64 = 2_147_483_648;
-
-// What a text is as a number with a sign.
-#[derive(Clone, Copy)]
-pub enum Signed {
-    Number(i32),
-    Other,
+// A number with one more digit, if it fits.
+#[tactic(auto, unfolding(crate::specs::Number::with_digit))]
+fn with_digit(n: u32, b: u8) -> Option<u32>
+    ensures { result ≡ with_digit n b }
+{
+    if !b.is_ascii_digit() {
+        return None;
+    }
+    n.checked_mul(10)?.checked_add(u32::from(b - b'0'))
 }
 
-// The bytes from a place on, so many of them; fewer where the text ends before.
-pub fn part(text: &[u8], from: usize, count: usize) -> &[u8]
-    ensures { result.now ≡ take count (drop from text.now) }
+// The number that a text spells in decimal digits.
+#[tactic(auto, using(crate::proofs::Digits::digits), unfolding(crate::specs::Number::number_of))]
+pub fn decimal(text: &[u8]) -> Option<u32>
+    ensures { result ≡ number_of text.now }
 {
-    let length = text.len();
-    if length <= from {
-        return &text[..0];
-    }
-    if length - from <= count {
-        return &text[from..];
-    }
-    &text[from..from + count]
-}
-
-// A number with one more digit, or NONE.
-fn with_digit(n: u64, b: u8) -> u64
-    requires { n ≤ none }
-    ensures value { result ≡ with_digit n b }
-    ensures small { result ≤ none }
-{
-    if b < b'0' {
-        return NONE;
-    }
-    if b'9' < b {
-        return NONE;
-    }
-    let longer = n * 10 + (b - b'0') as u64;
-    if longer < NONE {
-        return longer;
-    }
-    NONE
-}
-
-// The number that a text spells in decimal digits, or NONE.
-pub fn decimal(text: &[u8]) -> u64
-    ensures value { result ≡ number_of text.now }
-    ensures small { result ≤ none }
-{
-    if text.len() == 0 {
-        return NONE;
+    if text.is_empty() {
+        return None;
     }
     let mut n = 0;
-    let mut i = 0;
-    while i < text.len() {
-        n = with_digit(n, text[i]);
-        i += 1;
+    for b in text {
+        n = with_digit(n, *b)?;
     }
-    n
+    Some(n)
 }
 
-fn positive(n: u64) -> Signed
+#[tactic(auto, unfolding(crate::specs::Number::positive_of))]
+fn positive(n: u32) -> Option<i32>
     ensures { result ≡ positive_of n }
 {
-    if LARGEST < n {
-        return Signed::Other;
-    }
-    Signed::Number(n as i32)
+    i32::try_from(n).ok()
 }
 
-fn negative(n: u64) -> Signed
+#[tactic(auto, unfolding(crate::specs::Number::negative_of))]
+fn negative(n: u32) -> Option<i32>
     ensures { result ≡ negative_of n }
 {
-    if LEAST < n {
-        return Signed::Other;
-    }
-    if n == LEAST {
-        return Signed::Number(i32::MIN);
-    }
-    Signed::Number(-(n as i32))
+    i32::try_from(-i64::from(n)).ok()
 }
 
 // The number that a text spells in decimal digits, with a `-` before them or not.
-pub fn signed_decimal(text: &[u8]) -> Signed
+#[tactic(auto, using(crate::proofs::Digits::signs), unfolding(crate::specs::Number::signed_of))]
+pub fn signed_decimal(text: &[u8]) -> Option<i32>
     ensures { result ≡ signed_of text.now }
 {
-    if text.len() == 0 {
-        return Signed::Other;
+    match text {
+        [b'-', digits @ ..] => negative(decimal(digits)?),
+        _ => positive(decimal(text)?),
     }
-    if text[0] == b'-' {
-        return negative(decimal(&text[1..]));
-    }
-    positive(decimal(text))
 }

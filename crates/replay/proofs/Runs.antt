@@ -1,41 +1,39 @@
 -- A list of words as runs of equal ones.
-use Prim.Native.Nat.{ℕ, ◌+◌, ◌-◌, ◌<◌, ◌≤◌}
-use mathlib.Core.Path.{◌≡◌, sym, ◌∙◌}
-use mathlib.Core.List.{List, [], ◌++◌, append-nil}
-use native.Mathlib.Nat.{add-sub_cancel_left}
+use Prim.Native.Nat.{ℕ, ◌+◌, ◌<◌, ◌≤◌}
+use mathlib.Core.Path.{◌≡◌, refl, sym, ap, ◌∙◌}
+use mathlib.Core.List.{List, [], ◌∷◌, ◌++◌}
 use native.Mathlib.Numerals.{add-one}
 use native.Mathlib.Omega.{arith}
 use borrow.Author.Tests.{eq-eqb, ne_eqb}
 use lib.ListN.{length, get_or, drop, drop_of_length-le}
 use lib.Seq.{drop-cons}
-use Rattle.replay.specs.Text.{run_bytes, runs_from, list_bytes}
+use Rattle.replay.specs.declared.text.Digits.{Digits}
+use Rattle.replay.specs.Text.{Waiting, with_bytes, run_bytes, runs_from, list_bytes}
+use Rattle.replay.proofs.Putting.{part-put}
 
-module _ (list : List ℕ) (from : ℕ) where
-  -- the run that begins at a place has come so far
-  abbrev pub Reached : ℕ → ℕ → Type 0
-  Reached word i = (width : ℕ) → list_bytes width (drop from list) ≡ runs_from width word (i - from) (drop i list)
+-- a run has come to `count` words, and the words from a place on stand behind it
+module _ (start now : Waiting) (digits : Digits) (all rest : List ℕ) (run count i : ℕ)
+    (left : with_bytes start all ≡ with_bytes now (runs_from digits run count (drop i rest))) where
+  pub run-goes-on : i < length rest → get_or rest i 0 ≡ run
+      → with_bytes start all ≡ with_bytes now (runs_from digits run (count + 1) (drop (i + 1) rest))
+  unfolding runs_from
+  run-goes-on here same = left ∙ ap (with_bytes now) (rw (add-one i, drop-cons rest i 0 here, eq-eqb (get_or rest i 0) run same))
 
-  pub run-begins : from < length list → Reached (get_or list from 0) (from + 1)
-  unfolding list_bytes
-  run-begins here width = rw (add-sub_cancel_left, add-one, drop-cons list from 0)
+  pub run_ends : {next : Waiting} → i < length rest → (get_or rest i 0 ≡ run → ⊥)
+      → next ≡ with_bytes now (run_bytes digits run count)
+      → with_bytes start all ≡ with_bytes next (runs_from digits (get_or rest i 0) 1 (drop (i + 1) rest))
+  unfolding runs_from
+  run_ends here other put =
+      let split : runs_from digits run count (drop i rest)
+      ≡ run_bytes digits run count ++ runs_from digits (get_or rest i 0) 1 (drop (i + 1) rest)
+      = rw (add-one i, drop-cons rest i 0 here, ne_eqb (get_or rest i 0) run other) in
+      part-put start now _ all _ _ _ left split put
 
-  module _ (word i : ℕ) (before : from < i) (reached : Reached word i) where
-    pub run-goes-on : i < length list → get_or list i 0 ≡ word → Reached word (i + 1)
-    unfolding runs_from
-    run-goes-on here same width =
-        let count : i + 1 - from ≡ i - from + 1 = omega arith in
-        reached width ∙ rw (count, add-one i, drop-cons list i 0 here, eq-eqb (get_or list i 0) word same)
+  pub run-is-last : {next : Waiting} → length rest ≤ i → next ≡ with_bytes now (run_bytes digits run count) → next ≡ with_bytes start all
+  unfolding runs_from
+  run-is-last past put = put ∙ sym (left ∙ ap (with_bytes now) (rw (drop_of_length-le rest past)))
 
-    pub run_ends : i < length list → (get_or list i 0 ≡ word → ⊥) → (width : ℕ)
-        → list_bytes width (drop from list) ≡ run_bytes width word (i - from) ++ list_bytes width (drop i list)
-    unfolding runs_from list_bytes
-    run_ends here other width = reached width ∙ rw (drop-cons list i 0 here, ne_eqb (get_or list i 0) word other)
-
-    pub run-is-last : length list ≤ i → (width : ℕ)
-        → list_bytes width (drop from list) ≡ run_bytes width word (i - from) ++ list_bytes width (drop i list)
-    unfolding runs_from list_bytes
-    run-is-last past width = reached width ∙ rw (drop_of_length-le list past) (sym (append-nil (run_bytes width word (i - from))))
-
-pub no_words : (width : ℕ) (list : List ℕ) (i : ℕ) → length list ≤ i → list_bytes width (drop i list) ≡ []
+pub no_words : (digits : Digits) (list : List ℕ) → length list ≡ 0 → list_bytes digits list ≡ []
 unfolding list_bytes
-no_words width list i past = rw (drop_of_length-le list past)
+no_words digits [] none = refl
+no_words digits (w ∷ ws) none = absurd (omega arith)

@@ -1,31 +1,32 @@
--- The line that each call answers, by the table of docs/REPLAY.md: what is put into the text. A line that is no such call puts nothing.
-use Rattle.std.specs.Prelude.{ℕ, ◌-◌, Bool, false, cond, List, [], ◌∷◌, ◌++◌, ltb, eqb, length, take, drop}
+-- The line that each call answers, by the table of docs/REPLAY.md: what is put into the text.
+use Rattle.std.specs.Prelude.{◌≡◌, ℕ, Bool, false, cond, List, [], ◌∷◌, ◌++◌, length, Option, Some, None, codes, pos, ◌-ℤ◌, Result, Ok, Err}
+use Rattle.words.specs.declared.refusal.Refusal.{Refusal}
 use Rattle.fonts.specs.declared.Glyph.{Glyph}
-use Rattle.fonts.specs.declared.Reading.{Reading}
-use Rattle.fonts.specs.declared.Reading.TheVariants.{Accepted, Refused}
+use Rattle.fonts.specs.declared.View.{View}
 use Rattle.fonts.specs.Reading.{font_number, reading_of}
 use Rattle.fonts.specs.Face.{glyph_from, dots_of, row_of}
 use Rattle.paint.specs.Sheet.{Sheet, sheet_of}
-use Rattle.paint.specs.Label.{call_of, reply_of, measure_of}
-use Rattle.sheets.specs.Sheet.{fresh_number, join_number, apply_number, gather_reply}
+use Rattle.paint.specs.Label.{reply_of, measure_of, paint_after}
+use Rattle.sheets.specs.Sheet.{fresh_number, join_number, join_after, apply_number, apply_after, gather_reply}
 use Rattle.counts.specs.declared.Painted.{Painted}
 use Rattle.counts.specs.Lit.{Counted}
 use Rattle.counts.specs.Calls.{paint_counted, painted_of, apply_counted, clear_counted}
-use Rattle.words.specs.Word.{word, over}
-use Rattle.convert.specs.declared.Conversion.{Conversion}
-use Rattle.convert.specs.Conversion.{conversion_of, conversion_number, words_written}
+use Rattle.convert.specs.Conversion.{conversion_of, conversion_number, words_written, output_after}
 use Rattle.replay.specs.declared.list.Line.{Line}
-use Rattle.replay.specs.declared.registers.Array.{Array}
-use Rattle.replay.specs.declared.registers.Array.TheVariants.{Files, Lent, Keeps, Flips, Bytes, Nowhere}
-use Rattle.replay.specs.declared.registers.Register.{Register}
-use Rattle.replay.specs.declared.registers.Held.{Held}
-use Rattle.replay.specs.Names.{check, glyph, dots, row, measure, paint, fresh, gather, join, apply, keep_name, flip_name}
-use Rattle.replay.specs.Names.{cu, panel, out, counts, keep1, flip1, keep2, flip2, convert, show, paintlit, applylit, clear}
+use Rattle.replay.specs.declared.names.Register.{Register}
+use Rattle.replay.specs.declared.names.Register.TheVariants.{Font, Cu, Panel, Out, Keep1, Flip1, Keep2, Flip2, File, Counts}
+use Rattle.replay.specs.declared.names.Command.{Command}
+use Rattle.replay.specs.declared.names.Command.TheVariants.{Set, Show, Written, Convert, Check, Glyph as GlyphCall, Dots, Row, Measure}
+use Rattle.replay.specs.declared.names.Command.TheVariants.{Paint, PaintLit, Fresh, Gather, Join, Apply, ApplyLit, Clear, Other}
+use Rattle.replay.specs.declared.registers.Slices.{Slices}
+use Rattle.replay.specs.declared.registers.Registers.{Registers}
+use Rattle.replay.specs.declared.text.Digits.{Digits}
+use Rattle.replay.specs.declared.text.Digits.TheVariants.{Two, Four}
+use Rattle.replay.specs.Names.{register_named}
 use Rattle.replay.specs.Lines.{number_of, signed_of}
-use Rattle.replay.specs.Registers.{Arrays, register_of, held_by, words_of, copied, copy_after, narrowed}
-use Rattle.replay.specs.Registers.{lent_with_panel, lent_with_counts, held_of_counts}
-use Rattle.replay.specs.Text.{name_bytes, number_bytes, negative_bytes, value_bytes, list_bytes}
-use Rattle.replay.specs.Calls.{shape_of, label_of, gather_call, reply_bytes, counts_in, count_words}
+use Rattle.replay.specs.Registers.{chosen, holds, slices, registers, registers_with, registers_reading, registers_written, with_counts}
+use Rattle.replay.specs.Text.{name_bytes, number_bytes, signed_bytes, value_bytes, list_bytes}
+use Rattle.replay.specs.Calls.{shape_of, text_of, gather_call, paint_call, reply_bytes, counts_in, count_words}
 
 -- ---- calls that read the font
 
@@ -43,15 +44,16 @@ no_glyph = record {
   substitute = false;
 }
 
-unfoldable pub glyph_read : Reading → List ℕ → ℕ → Glyph
-glyph_read (Refused number) font code = no_glyph
-glyph_read (Accepted v) font code = glyph_from v font code
+unfoldable pub glyph_read : Result View Refusal → List ℕ → ℕ → Glyph
+glyph_read (Ok view) font code = glyph_from view font code
+glyph_read (Err refusal) font code = no_glyph
 
 unfoldable pub glyph_of : List ℕ → ℕ → Glyph
 glyph_of font code = glyph_read (reading_of font) font code
 
+-- a place from the pen, which a font counts from 2048 to its left
 unfoldable pub place_bytes : ℕ → List ℕ
-place_bytes place = cond (ltb place 2048) (negative_bytes (2048 - place)) (number_bytes (place - 2048))
+place_bytes place = signed_bytes (pos place -ℤ pos 2048)
 
 -- "1 for a substitute or 0"
 unfoldable pub one_if : Bool → ℕ
@@ -64,177 +66,198 @@ glyph_bytes g =
     ++ (place_bytes g.place
     ++ (number_bytes g.advance ++ (number_bytes (one_if g.substitute) ++ (number_bytes g.ascent ++ number_bytes g.height))))
 
-unfoldable pub head_bytes : ℕ → List ℕ → List ℕ
-head_bytes command font = name_bytes command ++ number_bytes (font_number font)
+-- how each of these answers but `row` begins
+unfoldable pub head_bytes : List ℕ → List ℕ → List ℕ
+head_bytes word font = word ++ number_bytes (font_number font)
 
-unfoldable pub check_answer : Line → List ℕ → List ℕ
-check_answer line font = head_bytes line.command font ++ (10 ∷ [])
+unfoldable pub check_answer : List ℕ → List ℕ
+check_answer font = head_bytes (codes "check") font ++ (10 ∷ [])
 
 unfoldable pub glyph_answer : Line → List ℕ → List ℕ
-glyph_answer line font = head_bytes line.command font ++ (glyph_bytes (glyph_of font (number_of line 0)) ++ (10 ∷ []))
+glyph_answer line font = head_bytes (codes "glyph") font ++ (glyph_bytes (glyph_of font (number_of line 0)) ++ (10 ∷ []))
 
 unfoldable pub dots_answer : Line → List ℕ → List ℕ
 dots_answer line font =
-    head_bytes line.command font
-    ++ (value_bytes 4 (dots_of font (glyph_of font (number_of line 0)) (number_of line 1) (number_of line 2)) ++ (10 ∷ []))
+    head_bytes (codes "dots") font
+    ++ (value_bytes Four (dots_of font (glyph_of font (number_of line 0)) (number_of line 1) (number_of line 2)) ++ (10 ∷ []))
 
 unfoldable pub row_answer : Line → List ℕ → List ℕ
-row_answer line font = name_bytes line.command ++ (list_bytes 4 (row_of font (number_of line 0) (number_of line 1)) ++ (10 ∷ []))
-
-unfoldable pub font_answer : Line → List ℕ → List ℕ
-font_answer line font =
-    cond (eqb line.command check) (check_answer line font)
-    (cond (eqb line.command glyph) (glyph_answer line font)
-    (cond (eqb line.command dots) (dots_answer line font)
-    (cond (eqb line.command row) (row_answer line font) [])))
+row_answer line font = codes "row" ++ (list_bytes Four (row_of font (number_of line 0) (number_of line 1)) ++ (10 ∷ []))
 
 -- ---- calls on a label
 
-unfoldable pub label_answer : Line → List ℕ → List ℕ → Held → List ℕ → List ℕ
-label_answer line font text held lent =
-    cond (eqb line.command measure) (reply_bytes line.command (measure_of font (signed_of line 0) text))
-    (cond (eqb line.command paint)
-    (reply_bytes line.command (reply_of (shape_of line 0) (length (words_of lent held panel) ∷ []) (call_of font (label_of line 3) text)))
-    [])
+unfoldable pub measure_answer : Line → List ℕ → List ℕ
+measure_answer line font = reply_bytes (codes "measure") (measure_of font (signed_of line 0) (text_of line))
+
+unfoldable pub paint_answer : Line → Registers → List ℕ
+paint_answer line r = reply_bytes (codes "paint")
+    (reply_of (shape_of line 0) (length r.panel.items ∷ []) (paint_call line r.font.items))
+
+-- "painting a label on `panel`"
+abbrev pub with_panel : List ℕ → Registers → Registers
+with_panel panel r = registers r.font r.cu (holds panel) r.out r.one r.two r.file r.counts r.written
+
+unfoldable pub registers_painted : Line → Registers → Registers
+registers_painted line r = with_panel (paint_after (shape_of line 0) (paint_call line r.font.items) r.panel.items) r
 
 -- ---- calls on sheets
 
-unfoldable pub refusal_bytes : ℕ → ℕ → List ℕ
-refusal_bytes command number = name_bytes command ++ (number_bytes number ++ (10 ∷ []))
+unfoldable pub refusal_bytes : List ℕ → ℕ → List ℕ
+refusal_bytes word number = word ++ (number_bytes number ++ (10 ∷ []))
 
--- what sheet S of a line holds
-abbrev pub keep_words : Line → Held → List ℕ → List ℕ
-keep_words line held keeps = words_of keeps held (keep_name (number_of line 0))
+abbrev pub sheet_in : Slices → Sheet
+sheet_in slices = sheet_of slices.keep.items slices.flip.items
 
-abbrev pub flip_words : Line → Held → List ℕ → List ℕ
-flip_words line held flips = words_of flips held (flip_name (number_of line 0))
+-- sheet S of a line
+abbrev pub line_sheet : Line → Registers → Sheet
+line_sheet line r = sheet_in (chosen (number_of line 0) r.one r.two)
 
-unfoldable pub gather_answer : Line → List ℕ → List ℕ → Held → List ℕ → List ℕ → List ℕ
-gather_answer line font text held keeps flips =
-    let sheet = sheet_of (keep_words line held keeps) (flip_words line held flips) in
-    cond (eqb line.command gather)
-    (reply_bytes line.command (gather_reply (shape_of line 1) (gather_call line font text) sheet)) []
+unfoldable pub fresh_answer : Line → Registers → List ℕ
+fresh_answer line r = refusal_bytes (codes "fresh") (fresh_number (shape_of line 1) (line_sheet line r))
 
-unfoldable pub sheet_answer : Line → Held → List ℕ → List ℕ → List ℕ → List ℕ
-sheet_answer line held lent keeps flips =
-    let sheet = sheet_of (keep_words line held keeps) (flip_words line held flips) in
-    cond (eqb line.command fresh) (refusal_bytes line.command (fresh_number (shape_of line 1) sheet))
-    (cond (eqb line.command apply)
-    (refusal_bytes line.command (apply_number (shape_of line 1) sheet (words_of lent held panel))) [])
+unfoldable pub gather_answer : Line → Registers → List ℕ
+gather_answer line r =
+    reply_bytes (codes "gather") (gather_reply (shape_of line 1) (gather_call line r.font.items) (line_sheet line r))
 
--- sheet 2 goes by way of a line's values, since two parts of one array cannot be lent where one may be altered
-unfoldable pub keep_spread : List ℕ → Held → List ℕ → List ℕ
-keep_spread values held keeps = copy_after (words_of keeps held keep2) 40000 values 0 40000
+unfoldable pub join_answer : Line → Registers → List ℕ
+join_answer line r = refusal_bytes (codes "join") (join_number (shape_of line 0) (sheet_in r.one) (sheet_in r.two))
 
-unfoldable pub join_spread : List ℕ → Held → List ℕ → List ℕ → List ℕ
-join_spread values held keeps flips = copy_after (words_of flips held flip2) 40000 (keep_spread values held keeps) 40000 40000
+-- sheet 2 "onto sheet 1, which changes; sheet 2 stays"
+abbrev pub with_sheet : Sheet → Registers → Registers
+with_sheet sheet r =
+    registers r.font r.cu r.panel r.out (slices (holds sheet.keep) (holds sheet.flip)) r.two r.file r.counts r.written
 
-unfoldable pub join_refusal : Line → List ℕ → Held → List ℕ → List ℕ → ℕ
-join_refusal line values held keeps flips =
-    let spread = join_spread values held keeps flips in
-    let kept = copied (words_of keeps held keep2) 40000 values 0 40000 in
-    let flipped = copied (words_of flips held flip2) 40000 (keep_spread values held keeps) 40000 40000 in
-    join_number (shape_of line 0) (sheet_of (words_of keeps held keep1) (words_of flips held flip1))
-    (sheet_of (take kept (drop 0 spread)) (take flipped (drop 40000 spread)))
+unfoldable pub registers_joined : Line → Registers → Registers
+registers_joined line r = with_sheet (join_after (shape_of line 0) (sheet_in r.one) (sheet_in r.two)) r
 
-unfoldable pub join_answer : Line → List ℕ → Held → List ℕ → List ℕ → List ℕ
-join_answer line values held keeps flips =
-    cond (eqb line.command join) (refusal_bytes line.command (join_refusal line values held keeps flips)) []
+unfoldable pub registers_applied : Line → Registers → Registers
+registers_applied line r = with_panel (apply_after (shape_of line 1) (line_sheet line r) r.panel.items) r
 
-unfoldable pub join_values : Line → List ℕ → Held → List ℕ → List ℕ → List ℕ
-join_values line values held keeps flips = cond (eqb line.command join) (join_spread values held keeps flips) values
+unfoldable pub apply_answer : Line → Registers → List ℕ
+apply_answer line r = refusal_bytes (codes "apply") (apply_number (shape_of line 1) (line_sheet line r) r.panel.items)
 
 -- ---- calls with counts: `paintlit N PEN SUBSTITUTES`, `applylit N`, `clear N`
 
-unfoldable pub counts_held : Held → List ℕ → List ℕ
-counts_held held lent = counts_in (words_of lent held counts)
+unfoldable pub counts_held : Registers → List ℕ
+counts_held r = counts_in r.counts.items
 
 -- what each leaves, "on `panel`, with `counts`": its number, the panel and the counts
-unfoldable pub paint_lit : Line → List ℕ → List ℕ → Held → List ℕ → Counted
-paint_lit line font text held lent =
-    paint_counted (shape_of line 0) (call_of font (label_of line 3) text) (words_of lent held panel) (counts_held held lent)
+unfoldable pub paint_lit : Line → Registers → Counted
+paint_lit line r = paint_counted (shape_of line 0) (paint_call line r.font.items) r.panel.items (counts_held r)
 
-unfoldable pub apply_lit : Line → Sheet → Held → List ℕ → Counted
-apply_lit line sheet held lent = apply_counted (shape_of line 1) sheet (words_of lent held panel) (counts_held held lent)
+unfoldable pub apply_lit : Line → Registers → Counted
+apply_lit line r = apply_counted (shape_of line 1) (line_sheet line r) r.panel.items (counts_held r)
 
-unfoldable pub clear_lit : Line → Held → List ℕ → Counted
-clear_lit line held lent = clear_counted (shape_of line 0) (words_of lent held panel) (counts_held held lent)
+unfoldable pub clear_lit : Line → Registers → Counted
+clear_lit line r = clear_counted (shape_of line 0) r.panel.items (counts_held r)
 
 -- and what painting answers
-unfoldable pub paint_lit_reply : Line → List ℕ → List ℕ → Held → List ℕ → Painted
-paint_lit_reply line font text held lent =
-    painted_of (shape_of line 0) (call_of font (label_of line 3) text) (words_of lent held panel) (counts_held held lent)
+unfoldable pub paint_lit_reply : Line → Registers → Painted
+paint_lit_reply line r = painted_of (shape_of line 0) (paint_call line r.font.items) r.panel.items (counts_held r)
 
-unfoldable pub count_answer : Line → List ℕ → List ℕ → Held → List ℕ → List ℕ → List ℕ → List ℕ
-count_answer line font text held lent keeps flips =
-    let sheet = sheet_of (keep_words line held keeps) (flip_words line held flips) in
-    cond (eqb line.command paintlit) (reply_bytes line.command (paint_lit_reply line font text held lent).reply)
-    (cond (eqb line.command applylit) (refusal_bytes line.command (apply_lit line sheet held lent).number)
-    (cond (eqb line.command clear) (refusal_bytes line.command (clear_lit line held lent).number) []))
+unfoldable pub paint_lit_answer : Line → Registers → List ℕ
+paint_lit_answer line r = reply_bytes (codes "paintlit") (paint_lit_reply line r).reply
 
--- what is held after a line, where `lent` has so many words
-unfoldable pub count_held : Line → Held → ℕ → Held
-count_held line held size =
-    cond (eqb line.command paintlit) (held_of_counts held size)
-    (cond (eqb line.command applylit) (held_of_counts held size)
-    (cond (eqb line.command clear) (held_of_counts held size) held))
+unfoldable pub apply_lit_answer : Line → Registers → List ℕ
+apply_lit_answer line r = refusal_bytes (codes "applylit") (apply_lit line r).number
 
--- and what `lent` holds: the panel and the counts are those that the call leaves
-abbrev pub panel_lit : Held → Counted → List ℕ → List ℕ
-panel_lit held c lent = lent_with_panel held c.panel lent
+unfoldable pub clear_answer : Line → Registers → List ℕ
+clear_answer line r = refusal_bytes (codes "clear") (clear_lit line r).number
 
-unfoldable pub lent_lit : Held → Counted → List ℕ → List ℕ
-lent_lit held c lent = lent_with_counts (count_words c.counts) (panel_lit held c lent)
-
-unfoldable pub count_lent : Line → List ℕ → List ℕ → Held → List ℕ → List ℕ → List ℕ → List ℕ
-count_lent line font text held lent keeps flips =
-    let sheet = sheet_of (keep_words line held keeps) (flip_words line held flips) in
-    cond (eqb line.command paintlit) (lent_lit held (paint_lit line font text held lent) lent)
-    (cond (eqb line.command applylit) (lent_lit held (apply_lit line sheet held lent) lent)
-    (cond (eqb line.command clear) (lent_lit held (clear_lit line held lent) lent) lent))
+-- the panel and the counts are those that the call leaves: "Each call with counts leaves all 64 words in it"
+abbrev pub registers_lit : Counted → Registers → Registers
+registers_lit c r = with_counts (count_words c.counts) (with_panel c.panel r)
 
 -- ---- the conversion: `convert N WRITTEN`
 
-unfoldable pub conversion_bytes : ℕ → Conversion → List ℕ
-conversion_bytes command conversion =
-    name_bytes command ++ (number_bytes (conversion_number conversion) ++ (number_bytes (words_written conversion) ++ (10 ∷ [])))
+unfoldable pub conversion_bytes : ℕ → ℕ → List ℕ
+conversion_bytes number written = codes "convert" ++ (number_bytes number ++ (number_bytes written ++ (10 ∷ [])))
 
-unfoldable pub convert_answer : Line → Held → List ℕ → List ℕ → List ℕ
-convert_answer line held files lent =
-    let conversion = conversion_of (words_of files held cu) (length (words_of lent held out)) in
-    cond (eqb line.command convert) (conversion_bytes line.command conversion) []
+abbrev pub conversion_in : Registers → Result ℕ Refusal
+conversion_in r = conversion_of r.cu.items (length r.out.items)
+
+unfoldable pub convert_answer : Registers → List ℕ
+convert_answer r = conversion_bytes (conversion_number (conversion_in r)) (words_written (conversion_in r))
+
+-- `out` as the conversion leaves it, and the words that it wrote, which are kept
+abbrev pub with_out : List ℕ → Registers → Registers
+with_out out r = registers r.font r.cu r.panel (holds out) r.one r.two r.file r.counts r.written
+
+unfoldable pub registers_converted : Registers → Registers
+registers_converted r = registers_written (words_written (conversion_in r)) (with_out (output_after r.cu.items r.out.items) r)
 
 -- ---- `show REGISTER` answers `REGISTER WORDS`, "of `file`: BYTES"
 
--- bytes are spread over words, which stand where a line's values would
-unfoldable pub widen_after : List ℕ → ℕ → List ℕ → List ℕ
-widen_after bytes count values = over (narrowed bytes count values) (word bytes) values
+unfoldable pub words_of : Register → Registers → List ℕ
+words_of Font r = r.font.items
+words_of Cu r = r.cu.items
+words_of Panel r = r.panel.items
+words_of Out r = r.out.items
+words_of Keep1 r = r.one.keep.items
+words_of Flip1 r = r.one.flip.items
+words_of Keep2 r = r.two.keep.items
+words_of Flip2 r = r.two.flip.items
+words_of File r = r.file.items
+words_of Counts r = r.counts.items
 
-unfoldable pub shown_bytes : List ℕ → ℕ → List ℕ → List ℕ
-shown_bytes bytes count values = take (narrowed bytes count values) bytes
+unfoldable pub digits_of : Register → Digits
+digits_of Font = Four
+digits_of Cu = Four
+digits_of Panel = Four
+digits_of Out = Four
+digits_of Keep1 = Four
+digits_of Flip1 = Four
+digits_of Keep2 = Four
+digits_of Flip2 = Four
+digits_of File = Two
+digits_of Counts = Four
 
-unfoldable pub register_bytes : Array → Register → ℕ → List ℕ → Arrays → List ℕ
-register_bytes Files r count values a = list_bytes 4 (take count (drop r.from a.files))
-register_bytes Lent r count values a = list_bytes 4 (take count (drop r.from a.lent))
-register_bytes Keeps r count values a = list_bytes 4 (take count (drop r.from a.keeps))
-register_bytes Flips r count values a = list_bytes 4 (take count (drop r.from a.flips))
-register_bytes Bytes r count values a = list_bytes 2 (shown_bytes a.bytes count values)
-register_bytes Nowhere r count values a = []
+unfoldable pub register_bytes : Option Register → Registers → List ℕ
+register_bytes (Some register) r = list_bytes (digits_of register) (words_of register r)
+register_bytes None r = []
 
-unfoldable pub values_spread : Array → ℕ → List ℕ → List ℕ → List ℕ
-values_spread Files count values bytes = values
-values_spread Lent count values bytes = values
-values_spread Keeps count values bytes = values
-values_spread Flips count values bytes = values
-values_spread Bytes count values bytes = widen_after bytes count values
-values_spread Nowhere count values bytes = values
+unfoldable pub show_answer : ℕ → Registers → List ℕ
+show_answer name r = name_bytes name ++ (register_bytes (register_named name) r ++ (10 ∷ []))
 
-unfoldable pub show_answer : Line → List ℕ → Held → Arrays → List ℕ
-show_answer line values held a =
-    let r = register_of line.name in
-    cond (eqb line.command show) (name_bytes line.name ++ (register_bytes r.array r (held_by held r) values a ++ (10 ∷ []))) []
+-- ---- a line: "Commands that set a register, and say nothing", and calls
 
-unfoldable pub values_shown : Line → List ℕ → Held → List ℕ → List ℕ
-values_shown line values held bytes =
-    let r = register_of line.name in
-    cond (eqb line.command show) (values_spread r.array (held_by held r) values bytes) values
+unfoldable pub answer_of : Command → Line → Registers → List ℕ
+answer_of (Set register) line r = []
+answer_of Show line r = show_answer line.name r
+answer_of Written line r = []
+answer_of Convert line r = convert_answer r
+answer_of Check line r = check_answer r.font.items
+answer_of GlyphCall line r = glyph_answer line r.font.items
+answer_of Dots line r = dots_answer line r.font.items
+answer_of Row line r = row_answer line r.font.items
+answer_of Measure line r = measure_answer line r.font.items
+answer_of Paint line r = paint_answer line r
+answer_of PaintLit line r = paint_lit_answer line r
+answer_of Fresh line r = fresh_answer line r
+answer_of Gather line r = gather_answer line r
+answer_of Join line r = join_answer line r
+answer_of Apply line r = apply_answer line r
+answer_of ApplyLit line r = apply_lit_answer line r
+answer_of Clear line r = clear_answer line r
+answer_of Other line r = []
+
+-- and what the line leaves the registers as. The slices of a sheet that `fresh` and `gather` alter are not told.
+unfoldable pub Leaves : Command → Line → Registers → Registers → Type 0
+Leaves (Set register) line r left = left ≡ registers_with register line.values.items r
+Leaves Show line r left = left ≡ r
+Leaves Written line r left = left ≡ registers_reading r
+Leaves Convert line r left = left ≡ registers_converted r
+Leaves Check line r left = left ≡ r
+Leaves GlyphCall line r left = left ≡ r
+Leaves Dots line r left = left ≡ r
+Leaves Row line r left = left ≡ r
+Leaves Measure line r left = left ≡ r
+Leaves Paint line r left = left ≡ registers_painted line r
+Leaves PaintLit line r left = left ≡ registers_lit (paint_lit line r) r
+Leaves Fresh line r left = Unit {0}
+Leaves Gather line r left = Unit {0}
+Leaves Join line r left = left ≡ registers_joined line r
+Leaves Apply line r left = left ≡ registers_applied line r
+Leaves ApplyLit line r left = left ≡ registers_lit (apply_lit line r) r
+Leaves Clear line r left = left ≡ registers_lit (clear_lit line r) r
+Leaves Other line r left = left ≡ r

@@ -1,13 +1,13 @@
 -- What a call is told by the numbers of its line, by docs/REPLAY.md, "Calls, and the line that each answers".
-use Rattle.std.specs.Prelude.{ℕ, ◌+◌, ◌*◌, ◌/◌, ◌%◌, min, cond, List, [], ◌∷◌, ◌++◌, eqb}
+use Rattle.std.specs.Prelude.{ℕ, ◌+◌, ◌*◌, ◌/◌, ◌%◌, min, cond, List, [], ◌∷◌, ◌++◌, eqb, map, take, ℤ}
 use Rattle.words.specs.Word.{word, table}
-use Rattle.paint.specs.declared.Reply.{Reply}
 use Rattle.paint.specs.declared.Shape.{Shape}
 use Rattle.paint.specs.declared.Label.{Label}
-use Rattle.paint.specs.Label.{Call, call_of, reply_number, reply_pen, reply_substitutes}
+use Rattle.paint.specs.Label.{Call, Reply, call_of, reply_number, reply_pen, reply_substitutes}
 use Rattle.replay.specs.declared.list.Line.{Line}
 use Rattle.replay.specs.Lines.{number_of, signed_of}
-use Rattle.replay.specs.Text.{name_bytes, number_bytes, signed_bytes}
+use Rattle.replay.specs.Registers.{low_byte}
+use Rattle.replay.specs.Text.{number_bytes, signed_bytes}
 
 -- "R, H, W are the panel's shape": three numbers, of which the first is number `first`, at most 5
 unfoldable pub shape_of : Line → ℕ → Shape
@@ -21,16 +21,26 @@ label_of line first =
     let k = min first 4 in
     record { strip = number_of line k; x = signed_of line (k + 1); y = signed_of line (k + 2); mode = number_of line (k + 3) }
 
+-- the bytes of a label: "A label has at most 1,000 bytes"
+abbrev pub text_of : Line → List ℕ
+text_of line = map low_byte (take 1000 line.values.items)
+
 -- the label of `gather`, behind the sheet and the shape
-abbrev pub gather_call : Line → List ℕ → List ℕ → Call
-gather_call line font text = call_of font (label_of line 4) text
+abbrev pub gather_call : Line → List ℕ → Call
+gather_call line font = call_of font (label_of line 4) (text_of line)
+
+-- and of `paint`, behind the shape
+abbrev pub paint_call : Line → List ℕ → Call
+paint_call line font = call_of font (label_of line 3) (text_of line)
 
 -- "`N` is the refusal's number, or 0. A refusal's other numbers are 0."
 -- `measure N PEN SUBSTITUTES`, and the same of `paint` and `gather`: a line, which a newline ends, 10
-unfoldable pub reply_bytes : ℕ → Reply → List ℕ
-reply_bytes command reply =
-    name_bytes command
-    ++ (number_bytes (reply_number reply) ++ (signed_bytes (reply_pen reply) ++ (number_bytes (reply_substitutes reply) ++ (10 ∷ []))))
+unfoldable pub numbers_bytes : List ℕ → ℕ → ℤ → ℕ → List ℕ
+numbers_bytes word number pen substitutes =
+    word ++ (number_bytes number ++ (signed_bytes pen ++ (number_bytes substitutes ++ (10 ∷ []))))
+
+unfoldable pub reply_bytes : List ℕ → Reply → List ℕ
+reply_bytes word reply = numbers_bytes word (reply_number reply) (reply_pen reply) (reply_substitutes reply)
 
 -- the counts that words are: "each count two words, the high one first", and "Words that `counts` does not hold count as 0"
 unfoldable pub count_at : List ℕ → ℕ → ℕ

@@ -1,168 +1,76 @@
--- The registers of docs/REPLAY.md, and the arrays that they share.
-use Rattle.std.specs.Prelude.{ℕ, ◌-◌, ◌%◌, min, cond, List, [], ◌∷◌, ◌++◌, ltb, eqb, length, get_or, set, take, drop}
-use Rattle.std.proofs.Math.Seq.{paste}
-use Rattle.std.specs.Borrow.{MutBor}
-use denote.Triple.Both.{Both}
-use Rattle.words.specs.Lent.{given, after}
-use Rattle.words.specs.Word.{word, over}
-use Rattle.replay.specs.declared.list.Line.{Line}
-use Rattle.replay.specs.declared.registers.Array.{Array}
-use Rattle.replay.specs.declared.registers.Array.TheVariants.{Files, Lent, Keeps, Flips, Bytes, Nowhere}
-use Rattle.replay.specs.declared.registers.Register.{Register}
-use Rattle.replay.specs.declared.registers.Held.{Held}
-use Rattle.replay.specs.Names.{font, cu, panel, out, file, counts, keep1, flip1, keep2, flip2}
+-- The registers of docs/REPLAY.md.
+use Rattle.std.specs.Prelude.{ℕ, ◌%◌, cond, List, [], eqb, map, take}
+use Rattle.arrayvec.specs.ArrayVec.{ArrayVec}
+use Rattle.replay.specs.declared.names.Register.{Register}
+use Rattle.replay.specs.declared.names.Register.TheVariants.{Font, Cu, Panel, Out, Keep1, Flip1, Keep2, Flip2, File, Counts}
+use Rattle.replay.specs.declared.registers.Slices.{Slices}
+use Rattle.replay.specs.declared.registers.Registers.{Registers}
 
-abbrev pub register : Array → ℕ → ℕ → ℕ → Register
-register array from room number = record { array = array; from = from; room = room; number = number }
+-- a register that holds these words
+abbrev pub holds : List ℕ → ArrayVec ℕ
+holds words = record { items = words }
 
--- the table of registers, each with the array that it stands in, from where, "at most" how much it holds, and the number of its count
-unfoldable pub register_of : ℕ → Register
-register_of name =
-    cond (eqb name font) (register Files 0 70000 0)
-    (cond (eqb name cu) (register Files 70000 530000 1)
-    (cond (eqb name panel) (register Lent 0 40000 2)
-    (cond (eqb name out) (register Lent 40000 70000 3)
-    (cond (eqb name keep1) (register Keeps 0 40000 4)
-    (cond (eqb name keep2) (register Keeps 40000 40000 5)
-    (cond (eqb name flip1) (register Flips 0 40000 6)
-    (cond (eqb name flip2) (register Flips 40000 40000 7)
-    (cond (eqb name file) (register Bytes 0 140000 8)
-    (cond (eqb name counts) (register Lent 110000 64 9)
-    (register Nowhere 0 0 10))))))))))
+abbrev pub slices : ArrayVec ℕ → ArrayVec ℕ → Slices
+slices keep flip = record { keep = keep; flip = flip }
+
+abbrev pub registers : ArrayVec ℕ → ArrayVec ℕ → ArrayVec ℕ → ArrayVec ℕ → Slices → Slices → ArrayVec ℕ → ArrayVec ℕ → ArrayVec ℕ
+    → Registers
+registers font cu panel out one two file counts written = record {
+  font = font;
+  cu = cu;
+  panel = panel;
+  out = out;
+  one = one;
+  two = two;
+  file = file;
+  counts = counts;
+  written = written;
+}
 
 -- "all empty at the start"
-unfoldable pub nothing_held : Held
-nothing_held = record { counts = 0 ∷ 0 ∷ 0 ∷ 0 ∷ 0 ∷ 0 ∷ 0 ∷ 0 ∷ 0 ∷ 0 ∷ []; written = 0 }
+abbrev pub no_slices : Slices
+no_slices = slices (holds []) (holds [])
 
--- how many words a register holds, of `file` bytes
-unfoldable pub held_by : Held → Register → ℕ
-held_by held r = cond (ltb r.number 10) (get_or held.counts r.number 0) 0
+abbrev pub nothing_held : Registers
+nothing_held =
+    registers (holds []) (holds []) (holds []) (holds []) no_slices no_slices (holds []) (holds []) (holds [])
 
-unfoldable pub held_with : Held → Register → ℕ → Held
-held_with held r count =
-    cond (ltb r.number 10) (record { counts = set held.counts r.number count; written = held.written }) held
+-- the words of a line that stand for bytes
+abbrev pub low_byte : ℕ → ℕ
+low_byte word = word % 256
 
--- "the words that the last `convert` wrote" are so many
-unfoldable pub held_written : Held → ℕ → Held
-held_written held count = record { counts = held.counts; written = count }
+-- "S is 1 or 2 and names the sheet"
+unfoldable pub chosen : ℕ → Slices → Slices → Slices
+chosen number one two = cond (eqb number 2) two one
 
--- the words of a register, as a part of its array
-unfoldable pub words_of : List ℕ → Held → ℕ → List ℕ
-words_of array held name = let r = register_of name in take (held_by held r) (drop r.from array)
+-- "the register becomes these words", of which it holds "at most" so many
+unfoldable pub registers_with : Register → List ℕ → Registers → Registers
+registers_with Font words r = registers (holds (take 70000 words)) r.cu r.panel r.out r.one r.two r.file r.counts r.written
+registers_with Cu words r = registers r.font (holds (take 530000 words)) r.panel r.out r.one r.two r.file r.counts r.written
+registers_with Panel words r = registers r.font r.cu (holds (take 40000 words)) r.out r.one r.two r.file r.counts r.written
+registers_with Out words r = registers r.font r.cu r.panel (holds (take 70000 words)) r.one r.two r.file r.counts r.written
+registers_with Keep1 words r =
+    registers r.font r.cu r.panel r.out (slices (holds (take 40000 words)) r.one.flip) r.two r.file r.counts r.written
+registers_with Flip1 words r =
+    registers r.font r.cu r.panel r.out (slices r.one.keep (holds (take 40000 words))) r.two r.file r.counts r.written
+registers_with Keep2 words r =
+    registers r.font r.cu r.panel r.out r.one (slices (holds (take 40000 words)) r.two.flip) r.file r.counts r.written
+registers_with Flip2 words r =
+    registers r.font r.cu r.panel r.out r.one (slices r.two.keep (holds (take 40000 words))) r.file r.counts r.written
+registers_with File words r =
+    registers r.font r.cu r.panel r.out r.one r.two (holds (map low_byte (take 140000 words))) r.counts r.written
+registers_with Counts words r = registers r.font r.cu r.panel r.out r.one r.two r.file (holds (take 64 words)) r.written
 
--- ---- copying
+-- "the words that the last `convert` wrote, at most 70,000": the first `count` of `out`
+abbrev pub registers_written : ℕ → Registers → Registers
+registers_written count r =
+    registers r.font r.cu r.panel r.out r.one r.two r.file r.counts (holds (take 70000 (take count r.out.items)))
 
--- how many of the first `count` words there are, and there is room for, in another list from a place on
-unfoldable pub copied : List ℕ → ℕ → List ℕ → ℕ → ℕ → ℕ
-copied from count to place room = min (min count (length from)) (min room (length to - place))
+-- "`font` becomes the words that the last `convert` wrote"
+abbrev pub registers_reading : Registers → Registers
+registers_reading r =
+    registers (holds (take 70000 r.written.items)) r.cu r.panel r.out r.one r.two r.file r.counts r.written
 
-unfoldable pub copy_after : List ℕ → ℕ → List ℕ → ℕ → ℕ → List ℕ
-copy_after from count to place room = paste to place from (copied from count to place room)
-
--- the same of words that stand for bytes, to the front of a list of bytes
-unfoldable pub narrowed : List ℕ → ℕ → List ℕ → ℕ
-narrowed from count to = min count (min (length from) (length to))
-
-unfoldable pub narrow_after : List ℕ → ℕ → List ℕ → List ℕ
-narrow_after from count to = over (narrowed from count to) (λ i. word from i % 256) to
-
--- ---- a line that sets a register: "the register becomes these words"
-
-pub record Arrays : Type 0 where
-  pub files : List ℕ
-  pub lent : List ℕ
-  pub keeps : List ℕ
-  pub flips : List ℕ
-  pub bytes : List ℕ
-
-abbrev pub arrays : List ℕ → List ℕ → List ℕ → List ℕ → List ℕ → Arrays
-arrays files lent keeps flips bytes = record { files = files; lent = lent; keeps = keeps; flips = flips; bytes = bytes }
-
--- what the five hold as a call that is lent them begins, and as it ends
-module _ {F L K G B : Type 0} where
-  abbrev pub at_entry : Both (MutBor (List ℕ)) F → Both (MutBor (List ℕ)) L → Both (MutBor (List ℕ)) K → Both (MutBor (List ℕ)) G
-      → Both (MutBor (List ℕ)) B → Arrays
-  at_entry files lent keeps flips bytes = arrays (given files) (given lent) (given keeps) (given flips) (given bytes)
-
-  abbrev pub at_exit : Both F (MutBor (List ℕ)) → Both L (MutBor (List ℕ)) → Both K (MutBor (List ℕ)) → Both G (MutBor (List ℕ))
-      → Both B (MutBor (List ℕ)) → Arrays
-  at_exit files lent keeps flips bytes = arrays (after files) (after lent) (after keeps) (after flips) (after bytes)
-
--- how many of the values come to stand in an array
-unfoldable pub taken_by : Array → Register → ℕ → List ℕ → Arrays → ℕ
-taken_by Files r count values a = copied values count a.files r.from r.room
-taken_by Lent r count values a = copied values count a.lent r.from r.room
-taken_by Keeps r count values a = copied values count a.keeps r.from r.room
-taken_by Flips r count values a = copied values count a.flips r.from r.room
-taken_by Bytes r count values a = narrowed values count a.bytes
-taken_by Nowhere r count values a = 0
-
-unfoldable pub arrays_with : Array → Register → ℕ → List ℕ → Arrays → Arrays
-arrays_with Files r count values a =
-    arrays (copy_after values count a.files r.from r.room) a.lent a.keeps a.flips a.bytes
-arrays_with Lent r count values a =
-    arrays a.files (copy_after values count a.lent r.from r.room) a.keeps a.flips a.bytes
-arrays_with Keeps r count values a =
-    arrays a.files a.lent (copy_after values count a.keeps r.from r.room) a.flips a.bytes
-arrays_with Flips r count values a =
-    arrays a.files a.lent a.keeps (copy_after values count a.flips r.from r.room) a.bytes
-arrays_with Bytes r count values a = arrays a.files a.lent a.keeps a.flips (narrow_after values count a.bytes)
-arrays_with Nowhere r count values a = a
-
--- what the registers hold after a line with these values, and the arrays; a line that names no register sets none
-unfoldable pub held_after : Line → List ℕ → Held → Arrays → Held
-held_after line values held a =
-    let r = register_of line.command in held_with held r (taken_by r.array r line.values values a)
-
-unfoldable pub arrays_after : Line → List ℕ → Arrays → Arrays
-arrays_after line values a = let r = register_of line.command in arrays_with r.array r line.values values a
-
--- ---- "the words that the last `convert` wrote", which stand behind the registers in `files`
-
-abbrev pub written_at : ℕ
-written_at = 600000
-
-abbrev pub most_written : ℕ
-most_written = 70000
-
--- what is held, and `files`, after `count` words of `out` are kept
-unfoldable pub kept_after : Held → ℕ → List ℕ → List ℕ → Held
-kept_after held count lent files = held_written held (copied (words_of lent held out) count files written_at most_written)
-
-unfoldable pub files_kept : Held → ℕ → List ℕ → List ℕ → List ℕ
-files_kept held count lent files = copy_after (words_of lent held out) count files written_at most_written
-
--- "`font` becomes the words that the last `convert` wrote", by way of a line's values
-unfoldable pub kept : Held → List ℕ → List ℕ
-kept held files = take held.written (drop written_at files)
-
-unfoldable pub values_from_written : Held → List ℕ → List ℕ → List ℕ
-values_from_written held values files = copy_after (kept held files) most_written values 0 most_written
-
-unfoldable pub kept_count : Held → List ℕ → List ℕ → ℕ
-kept_count held values files = copied (kept held files) most_written values 0 most_written
-
-unfoldable pub held_from_written : Held → List ℕ → List ℕ → Held
-held_from_written held values files =
-    let r = register_of font in
-    held_with held r (copied (values_from_written held values files) (kept_count held values files) files r.from r.room)
-
-unfoldable pub files_from_written : Held → List ℕ → List ℕ → List ℕ
-files_from_written held values files =
-    let r = register_of font in
-    copy_after (values_from_written held values files) (kept_count held values files) files r.from r.room
-
--- ---- what a call with counts leaves: the panel, which stands first in `lent`, and the register `counts`, which stands last
-
-unfoldable pub lent_with_panel : Held → List ℕ → List ℕ → List ℕ
-lent_with_panel held words lent = words ++ drop (length (words_of lent held panel)) lent
-
-unfoldable pub lent_with_counts : List ℕ → List ℕ → List ℕ
-lent_with_counts words lent = let r = register_of counts in copy_after words r.room lent r.from r.room
-
-unfoldable pub held_with_counts : Held → List ℕ → List ℕ → Held
-held_with_counts held words lent = let r = register_of counts in held_with held r (copied words r.room lent r.from r.room)
-
--- "Each call with counts leaves all 64 words in it": all for which a `lent` of so many words has room
-unfoldable pub held_of_counts : Held → ℕ → Held
-held_of_counts held size = held_with held (register_of counts) (min 64 (size - 110000))
+-- the register `counts` with these words
+abbrev pub with_counts : List ℕ → Registers → Registers
+with_counts words r = registers r.font r.cu r.panel r.out r.one r.two r.file (holds words) r.written

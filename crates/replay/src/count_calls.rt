@@ -1,21 +1,17 @@
-// The calls with counts: paintlit, applylit, clear. The panel and the counts stand in one array, so the counts are read by value before
-// the panel is lent, and put back behind the call, a refused one too.
-ghost use Rattle.std.specs.Prelude.{◌≡◌, ◌+◌, ◌*◌, ◌/◌, ◌%◌, ◌<◌, length};
-ghost use Rattle.paint.specs.Sheet.{sheet_of};
-ghost use Rattle.counts.specs.Calls.{settled_of};
+// The calls with counts: paintlit, applylit, clear. Each leaves its counts in their register, a refused one too.
+ghost use Rattle.std.specs.Prelude.{◌≡◌, ◌+◌, ◌*◌, ◌/◌, ◌%◌, ◌<◌};
 ghost use Rattle.replay.specs.Text.{Puts};
-ghost use Rattle.replay.specs.Calls.{count_at, counts_in, count_word, count_words, reply_bytes};
-ghost use Rattle.replay.specs.Registers.{held_of_counts, lent_with_counts};
-ghost use Rattle.replay.specs.Answers.{refusal_bytes, counts_held, paint_lit, paint_lit_reply, apply_lit, clear_lit, panel_lit};
-ghost use Rattle.replay.specs.Answers.{count_answer, count_held, count_lent};
+ghost use Rattle.replay.specs.Calls.{count_at, counts_in, count_word, count_words};
+ghost use Rattle.replay.specs.Registers.{with_counts};
+ghost use Rattle.replay.specs.Answers.{paint_lit_answer, apply_lit_answer, clear_answer};
+ghost use Rattle.replay.specs.Answers.{registers_lit, paint_lit, apply_lit, clear_lit};
 
-use crate::label_calls::{label, put_reply, shape};
+use crate::label_calls::{label, put_reply, shape, text};
 use crate::list::Line;
-use crate::registers::Held;
-use crate::sheet_calls::put_refusal;
-use crate::text::TEXT;
-use crate::{State, names, registers};
-use counts::{Painted, Settled};
+use crate::names::Register;
+use crate::registers::{Registers, Slices};
+use crate::sheet_calls::put_outcome;
+use crate::text::Output;
 
 // A number of two words, the high one first.
 fn joined(high: u16, low: u16) -> u32
@@ -25,6 +21,7 @@ fn joined(high: u16, low: u16) -> u32
 }
 
 // Count k of a register's words.
+#[tactic(auto, unfolding(crate::specs::Calls::count_at))]
 fn count_at(words: &[u16], k: usize) -> u32
     requires { k < 32 }
     ensures { result ≡ count_at words.now k }
@@ -36,28 +33,15 @@ fn count_at(words: &[u16], k: usize) -> u32
 }
 
 // The counts that a register's words are.
+#[tactic(auto, using(words::proofs::Over::over_turn), unfolding(words::specs::Word::over))]
 fn counts_of(words: &[u16]) -> [u32; 32]
     ensures { result ≡ counts_in words.now }
 {
-    let mut counts = [0u32; 32];
-    let mut k = 0;
-    while k < 32 {
+    let mut counts = [0; 32];
+    for k in 0..32 {
         counts[k] = count_at(words, k);
-        k += 1;
     }
     counts
-}
-
-fn high(count: u32) -> u16
-    ensures { result ≡ count / 65536 }
-{
-    (count / 65536) as u16
-}
-
-fn low(count: u32) -> u16
-    ensures { result ≡ count % 65536 }
-{
-    (count % 65536) as u16
 }
 
 // Word i of the register that holds these counts.
@@ -67,147 +51,74 @@ fn count_word(counts: [u32; 32], i: usize) -> u16
 {
     let count = counts[i / 2];
     if i % 2 == 0 {
-        return high(count);
+        return (count / 65536) as u16;
     }
-    low(count)
+    (count % 65536) as u16
 }
 
 // The words that counts are.
+#[tactic(auto, using(words::proofs::Over::over_turn), unfolding(words::specs::Word::over))]
 fn words_of(counts: [u32; 32]) -> [u16; 64]
     ensures { result ≡ count_words counts }
 {
-    let mut words = [0u16; 64];
-    let mut i = 0;
-    while i < 64 {
+    let mut words = [0; 64];
+    for i in 0..64 {
         words[i] = count_word(counts, i);
-        i += 1;
     }
     words
 }
 
-// The counts that are held.
-fn counts_held(held: Held, lent: &[u16]) -> [u32; 32]
-    ensures { result ≡ counts_held held lent.now }
-{
-    counts_of(registers::held_words(lent, held, names::COUNTS))
-}
-
 // Makes these counts the register's.
-fn keep(held: Held, counts: [u32; 32], lent: &mut [u16]) -> Held
-    ensures value { result ≡ held_of_counts held (length lent.old) }
-    ensures lent { lent.new ≡ lent_with_counts (count_words counts) lent.old }
+fn keep(counts: [u32; 32], registers: &mut Registers)
+    ensures { registers.new ≡ with_counts (count_words counts) registers.old }
 {
-    let words = words_of(counts);
-    registers::keep_counts(held, &words, lent)
+    registers.set(Register::Counts, &words_of(counts));
 }
 
-fn paint(line: Line, font: &[u16], text: &[u8], held: Held, lent: &mut [u16]) -> Painted
-    ensures value { result ≡ paint_lit_reply line font.now text.now held lent.old }
-    ensures lent { lent.new ≡ panel_lit held (paint_lit line font.now text.now held lent.old) lent.old }
+pub fn paint_lit(line: &Line, registers: &mut Registers, output: &mut Output<impl Print>)
+    ensures puts { Puts output (paint_lit_answer line.now registers.old) }
+    ensures registers { registers.new ≡ registers_lit (paint_lit line.now registers.old) registers.old }
 {
-    let counts = counts_held(held, lent);
-    let end = registers::panel_end(held, lent);
-    counts::paint(
-        font,
+    let text = text(line);
+    let counts = counts_of(registers.counts.as_slice());
+    let panel = registers.panel.as_mut_slice();
+    let painted = counts::paint(
+        registers.font.as_slice(),
         shape(line, 0),
         label(line, 3),
-        text,
-        &mut lent[..end],
+        text.as_slice(),
+        panel,
         counts,
-    )
+    );
+    put_reply(b"paintlit", painted.reply, output);
+    keep(painted.counts, registers);
 }
 
-fn apply(line: Line, keep: &[u16], flip: &[u16], held: Held, lent: &mut [u16]) -> Settled
-    ensures value { result ≡ settled_of (apply_lit line (sheet_of keep.now flip.now) held lent.old) }
-    ensures lent { lent.new ≡ panel_lit held (apply_lit line (sheet_of keep.now flip.now) held lent.old) lent.old }
+pub fn apply_lit(line: &Line, registers: &mut Registers, output: &mut Output<impl Print>)
+    ensures puts { Puts output (apply_lit_answer line.now registers.old) }
+    ensures registers { registers.new ≡ registers_lit (apply_lit line.now registers.old) registers.old }
 {
-    let counts = counts_held(held, lent);
-    let end = registers::panel_end(held, lent);
-    counts::apply(shape(line, 1), keep, flip, &mut lent[..end], counts)
+    let sheet = Slices::chosen(line.number(0), &registers.one, &registers.two);
+    let counts = counts_of(registers.counts.as_slice());
+    let panel = registers.panel.as_mut_slice();
+    let settled = counts::apply(
+        shape(line, 1),
+        sheet.keep.as_slice(),
+        sheet.flip.as_slice(),
+        panel,
+        counts,
+    );
+    put_outcome(b"applylit", settled.reply, output);
+    keep(settled.counts, registers);
 }
 
-fn clear(line: Line, held: Held, lent: &mut [u16]) -> Settled
-    ensures value { result ≡ settled_of (clear_lit line held lent.old) }
-    ensures lent { lent.new ≡ panel_lit held (clear_lit line held lent.old) lent.old }
+pub fn clear(line: &Line, registers: &mut Registers, output: &mut Output<impl Print>)
+    ensures puts { Puts output (clear_answer line.now registers.old) }
+    ensures registers { registers.new ≡ registers_lit (clear_lit line.now registers.old) registers.old }
 {
-    let counts = counts_held(held, lent);
-    let end = registers::panel_end(held, lent);
-    counts::clear(shape(line, 0), &mut lent[..end], counts)
-}
-
-// Answers what painting has answered, and keeps its counts.
-fn answer_painted(
-    rt: &impl Print,
-    line: Line,
-    painted: Painted,
-    state: State,
-    lent: &mut [u16],
-    text: &mut [u8; TEXT],
-) -> State
-    ensures puts { Puts text state.at (reply_bytes line.command painted.reply) result.at }
-    ensures held { result.held ≡ held_of_counts state.held (length lent.old) }
-    ensures lent { lent.new ≡ lent_with_counts (count_words painted.counts) lent.old }
-{
-    let held = state.held;
-    let reply = painted.reply;
-    let counts = painted.counts;
-    let at = put_reply(rt, text, state.at, line, reply);
-    let held = keep(held, counts, lent);
-    State { held, at }
-}
-
-// The same of applying and clearing.
-fn answer_settled(
-    rt: &impl Print,
-    line: Line,
-    settled: Settled,
-    state: State,
-    lent: &mut [u16],
-    text: &mut [u8; TEXT],
-) -> State
-    ensures puts { Puts text state.at (refusal_bytes line.command settled.number) result.at }
-    ensures held { result.held ≡ held_of_counts state.held (length lent.old) }
-    ensures lent { lent.new ≡ lent_with_counts (count_words settled.counts) lent.old }
-{
-    let held = state.held;
-    let counts = settled.counts;
-    let at = put_refusal(rt, text, state.at, line, settled.number);
-    let held = keep(held, counts, lent);
-    State { held, at }
-}
-
-// Answers a call of this file.
-pub fn answer(
-    rt: &impl Print,
-    line: Line,
-    font: &[u16],
-    label: &[u8],
-    held: Held,
-    lent: &mut [u16],
-    keeps: &[u16],
-    flips: &[u16],
-    text: &mut [u8; TEXT],
-    at: usize,
-) -> State
-    ensures puts { Puts text at (count_answer line font.now label.now held lent.old keeps.now flips.now) result.at }
-    ensures held { result.held ≡ count_held line held (length lent.old) }
-    ensures lent { lent.new ≡ count_lent line font.now label.now held lent.old keeps.now flips.now }
-{
-    let state = State { held, at };
-    if line.command == names::PAINTLIT {
-        let painted = paint(line, font, label, held, lent);
-        return answer_painted(rt, line, painted, state, lent, text);
-    }
-    if line.command == names::APPLYLIT {
-        let sheet = line.number(0);
-        let keep = registers::held_words(keeps, held, names::keep_of(sheet));
-        let flip = registers::held_words(flips, held, names::flip_of(sheet));
-        let settled = apply(line, keep, flip, held, lent);
-        return answer_settled(rt, line, settled, state, lent, text);
-    }
-    if line.command == names::CLEAR {
-        let settled = clear(line, held, lent);
-        return answer_settled(rt, line, settled, state, lent, text);
-    }
-    state
+    let counts = counts_of(registers.counts.as_slice());
+    let panel = registers.panel.as_mut_slice();
+    let settled = counts::clear(shape(line, 0), panel, counts);
+    put_outcome(b"clear", settled.reply, output);
+    keep(settled.counts, registers);
 }

@@ -1,66 +1,48 @@
 // The calls that measure and paint a label: measure, paint.
-ghost use Rattle.std.specs.Prelude.{◌≡◌, [], ◌∷◌, length};
-ghost use Rattle.paint.specs.Label.{call_of, reply_of, measure_of, reply_number, reply_pen, reply_substitutes};
-ghost use Rattle.replay.specs.Lines.{signed_of};
-ghost use Rattle.replay.specs.Answers.{label_answer};
+ghost use Rattle.std.specs.Prelude.{◌≡◌, map, take};
+ghost use Rattle.replay.specs.Registers.{low_byte};
 ghost use Rattle.replay.specs.Text.{Puts};
-ghost use Rattle.replay.specs.Calls.{shape_of, label_of, reply_bytes};
+ghost use Rattle.replay.specs.Calls.{shape_of, label_of, text_of, reply_bytes, numbers_bytes};
+ghost use Rattle.replay.specs.Answers.{measure_answer, paint_answer, registers_painted};
 
 use crate::list::Line;
-use crate::names;
-use crate::registers::{Held, lent_words};
-use crate::text::{TEXT, put, put_name, put_number, put_signed};
+use crate::registers::Registers;
+use crate::text::Output;
+use arrayvec::ArrayVec;
 use paint::{Label, Reply, Shape};
 
-fn refusal(reply: Reply) -> u32
-    ensures { result ≡ reply_number reply }
-{
-    match reply {
-        Reply::Refused(number) => number,
-        Reply::Done(_) => 0,
-    }
-}
-
-fn last_pen(reply: Reply) -> i32
-    ensures { result ≡ reply_pen reply }
-{
-    match reply {
-        Reply::Refused(_) => 0,
-        Reply::Done(finish) => finish.pen,
-    }
-}
-
-fn substitutes(reply: Reply) -> u32
-    ensures { result ≡ reply_substitutes reply }
-{
-    match reply {
-        Reply::Refused(_) => 0,
-        Reply::Done(finish) => finish.substitutes,
-    }
-}
-
 // The whole answer of a call on a label.
-pub fn put_reply(
-    rt: &impl Print,
-    text: &mut [u8; TEXT],
-    at: usize,
-    line: Line,
-    reply: Reply,
-) -> usize
-    ensures { Puts text at (reply_bytes line.command reply) result }
+pub fn put_reply(word: &[u8], reply: Reply, output: &mut Output<impl Print>)
+    ensures { Puts output (reply_bytes word.now reply) }
 {
-    let at = put_name(rt, text, at, line.command);
-    let at = put_number(rt, text, at, refusal(reply) as u64);
-    let at = put_signed(rt, text, at, last_pen(reply));
-    let at = put_number(rt, text, at, substitutes(reply) as u64);
-    put(rt, text, at, b'\n')
+    match reply {
+        Ok(finish) => put_numbers(word, 0, finish.pen, finish.substitutes, output),
+        Err(refusal) => put_numbers(word, refusal.number(), 0, 0, output),
+    }
 }
 
-// The shape of a panel, from the numbers of a line, the first of them number `first`, which is at most 5.
-pub fn shape(line: Line, first: usize) -> Shape
-    ensures { result ≡ shape_of line first }
+fn put_numbers(
+    word: &[u8],
+    number: u32,
+    pen: i32,
+    substitutes: u32,
+    output: &mut Output<impl Print>,
+)
+    ensures { Puts output (numbers_bytes word.now number pen substitutes) }
 {
-    let k = words::least(first, 5);
+    output.put_all(word);
+    output.put_number(number);
+    output.put_number(pen);
+    output.put_number(substitutes);
+    output.put(b'\n');
+}
+
+// The shape of a panel, from the numbers of a line, the first of them number `first`.
+#[tactic(auto, unfolding(crate::specs::Calls::shape_of))]
+pub fn shape(line: &Line, first: usize) -> Shape
+    ensures { result ≡ shape_of line.now first }
+{
+    let k = first.min(5);
     Shape {
         rowwords: line.number(k),
         rows: line.number(k + 1),
@@ -68,11 +50,12 @@ pub fn shape(line: Line, first: usize) -> Shape
     }
 }
 
-// Where a label goes, from the numbers of a line, the first of them number `first`, which is at most 4.
-pub fn label(line: Line, first: usize) -> Label
-    ensures { result ≡ label_of line first }
+// Where a label goes, from the numbers of a line, the first of them number `first`.
+#[tactic(auto, unfolding(crate::specs::Calls::label_of))]
+pub fn label(line: &Line, first: usize) -> Label
+    ensures { result ≡ label_of line.now first }
 {
-    let k = words::least(first, 4);
+    let k = first.min(4);
     Label {
         strip: line.number(k),
         x: line.signed(k + 1),
@@ -81,37 +64,44 @@ pub fn label(line: Line, first: usize) -> Label
     }
 }
 
-fn measure(line: Line, font: &[u16], text: &[u8]) -> Reply
-    ensures { result ≡ measure_of font.now (signed_of line 0) text.now }
+// The bytes of a label, which are a line's values.
+pub fn text(line: &Line) -> ArrayVec<u8, 1_000>
+    ensures { result.items ≡ text_of line.now }
 {
-    paint::measure(font, line.signed(0), text)
+    bytes(line.values.as_slice())
 }
 
-fn paint(line: Line, font: &[u16], text: &[u8], panel: &mut [u16]) -> Reply
-    ensures { result ≡ reply_of (shape_of line 0) (length panel.old ∷ []) (call_of font.now (label_of line 3) text.now) }
+// The bytes that words stand for, the first N.
+fn bytes<const N: usize>(words: &[u16]) -> ArrayVec<u8, N>
+    ensures { result.items ≡ map low_byte (take N words.now) }
 {
-    paint::paint(font, shape(line, 0), label(line, 3), text, panel)
+    let mut bytes = ArrayVec::new();
+    for &word in words::part(words, 0, N) {
+        bytes.push((word % 256) as u8);
+    }
+    bytes
 }
 
-// Answers a call of this file.
-pub fn answer(
-    rt: &impl Print,
-    line: Line,
-    font: &[u16],
-    label: &[u8],
-    held: Held,
-    lent: &mut [u16],
-    text: &mut [u8; TEXT],
-    at: usize,
-) -> usize
-    ensures { Puts text at (label_answer line font.now label.now held lent.old) result }
+pub fn measure(line: &Line, font: &[u16], output: &mut Output<impl Print>)
+    ensures { Puts output (measure_answer line.now font.now) }
 {
-    if line.command == names::MEASURE {
-        return put_reply(rt, text, at, line, measure(line, font, label));
-    }
-    if line.command == names::PAINT {
-        let panel = lent_words(lent, held, names::PANEL);
-        return put_reply(rt, text, at, line, paint(line, font, label, panel));
-    }
-    at
+    let text = text(line);
+    let reply = paint::measure(font, line.signed(0), text.as_slice());
+    put_reply(b"measure", reply, output);
+}
+
+pub fn paint(line: &Line, registers: &mut Registers, output: &mut Output<impl Print>)
+    ensures puts { Puts output (paint_answer line.now registers.old) }
+    ensures registers { registers.new ≡ registers_painted line.now registers.old }
+{
+    let text = text(line);
+    let panel = registers.panel.as_mut_slice();
+    let reply = paint::paint(
+        registers.font.as_slice(),
+        shape(line, 0),
+        label(line, 3),
+        text.as_slice(),
+        panel,
+    );
+    put_reply(b"paint", reply, output);
 }

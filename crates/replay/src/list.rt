@@ -1,14 +1,15 @@
 // Reading a list: the field that is being read, byte by byte, and the line that its fields make.
-ghost use Rattle.std.specs.Prelude.{◌≡◌, ◌<◌, true};
-ghost use Rattle.replay.specs.Lines.{empty_line, without_line, nothing_read, all_read};
-ghost use Rattle.replay.specs.Lines.{unsigned_at, signed_at, counted_of, number_of, signed_of};
+ghost use Rattle.std.specs.Prelude.{◌≡◌, ◌<◌};
+ghost use Rattle.replay.specs.Lines.{empty_line, unsigned_in, signed_in, counted_of, number_of, signed_of};
 
-use crate::names;
+use crate::names::{Command, extended};
+use arrayvec::ArrayVec;
 use std::io;
 
-pub const INPUT: usize = 65_536;
+const INPUT: usize = 65_536;
 
-pub const VALUES: usize = 530_000;
+// The most values that a line has.
+const VALUES: usize = 530_000;
 
 // The field so far. What it is, a name, a number or a value, is known only where it ends, so it is read as each.
 #[derive(Clone, Copy)]
@@ -18,80 +19,46 @@ struct Field {
     negative: bool,
     word: u16,
     // What stands behind its `*`, where there is one.
-    repeated: bool,
-    count: u64,
+    count: Option<u64>,
 }
 
-// A field as far as a buffer has it, the byte that ends it, and the place behind that byte; place 0 where the buffer ends before.
-#[derive(Clone, Copy)]
-struct Piece {
-    field: Field,
-    end: u8,
-    next: usize,
-}
-
-// A whole field, and the byte that ends it. What has been read behind it stands in the buffer, from a place up to another. At the end of
-// the list there is no field.
-#[derive(Clone, Copy)]
-struct Ended {
-    field: Field,
-    end: u8,
-    over: bool,
-    from: usize,
-    upto: usize,
-}
-
-// The line so far. Its values stand in an array of their own, as so many words.
-#[derive(Clone, Copy)]
+// The line so far.
+#[derive(Drop)]
 pub struct Line {
-    pub command: u64,
+    pub command: Command,
     fields: usize,
     // The last name behind the command: the register that is shown.
     pub name: u64,
-    // The numbers behind the command, each counted from 4294967296 below zero.
-    numbers: [u64; 8],
-    pub values: usize,
+    // The numbers behind the command.
+    numbers: [i64; 8],
+    pub values: ArrayVec<u16, VALUES>,
 }
 
-// A whole line, and what has been read behind it. At the end of the list there is no line.
-#[derive(Clone, Copy)]
-pub struct Read {
-    pub line: Line,
-    pub over: bool,
+// A list, and the bytes of it that have been read and not yet taken: those of the buffer from a place up to another.
+#[derive(Drop)]
+pub struct List<R: io::Read + Drop> {
+    bytes: R,
+    buffer: [u8; INPUT],
     from: usize,
     upto: usize,
 }
 
 // A decimal number with one more digit. One that is past all that a list may have stays as it is, as does one before another character.
 fn tenfold(n: u64, b: u8) -> u64 {
-    if b < 48 {
-        return n;
+    match b {
+        b'0'..=b'9' if n < 100_000_000_000 => n * 10 + (b - b'0') as u64,
+        _ => n,
     }
-    if 57 < b {
-        return n;
-    }
-    if 99_999_999_999 < n {
-        return n;
-    }
-    n * 10 + (b - 48) as u64
 }
 
 fn nibble(b: u8) -> u16
     ensures { result < 16 }
 {
-    if b < 48 {
-        return 0;
+    match b {
+        b'0'..=b'9' => (b - b'0') as u16,
+        b'A'..=b'F' => (b - b'A') as u16 + 10,
+        _ => 0,
     }
-    if b < 58 {
-        return (b - 48) as u16;
-    }
-    if b < 65 {
-        return 0;
-    }
-    if 70 < b {
-        return 0;
-    }
-    (b - 55) as u16
 }
 
 fn hexadecimal(word: u16, b: u8) -> u16 {
@@ -105,299 +72,196 @@ impl Field {
             digits: 0,
             negative: false,
             word: 0,
-            repeated: false,
-            count: 0,
+            count: None,
         }
     }
 
     fn with(mut self, b: u8) -> Field {
-        if self.repeated {
-            self.count = tenfold(self.count, b);
+        if let Some(count) = self.count {
+            self.count = Some(tenfold(count, b));
             return self;
         }
-        if b == b'*' {
-            self.repeated = true;
-            return self;
+        match b {
+            b'*' => self.count = Some(0),
+            b'-' => self.negative = true,
+            _ => {
+                self.name = extended(self.name, b);
+                self.digits = tenfold(self.digits, b);
+                self.word = hexadecimal(self.word, b);
+            }
         }
-        if b == b'-' {
-            self.negative = true;
-            return self;
-        }
-        self.name = names::extended(self.name, b);
-        self.digits = tenfold(self.digits, b);
-        self.word = hexadecimal(self.word, b);
         self
     }
 
     // How often its value stands there.
     fn times(self) -> u64 {
-        if self.repeated {
-            return self.count;
-        }
-        1
+        self.count.unwrap_or(1)
     }
 
-    // Its number, counted from 4294967296 below zero.
-    fn number(self) -> u64 {
+    fn number(self) -> i64 {
         if 4_294_967_295 < self.digits {
-            return 4_294_967_296;
+            return 0;
         }
         if self.negative {
-            return 4_294_967_296 - self.digits;
+            return -(self.digits as i64);
         }
-        4_294_967_296 + self.digits
-    }
-}
-
-// The rest of a field, in a buffer from a place up to another.
-fn scan(buffer: &[u8], from: usize, upto: usize, begun: Field) -> Piece {
-    let last = words::least(upto, buffer.len());
-    let mut field = begun;
-    let mut i = from;
-    while i < last {
-        let b = buffer[i];
-        if b <= b' ' {
-            return Piece {
-                field,
-                end: b,
-                next: i + 1,
-            };
-        }
-        field = field.with(b);
-        i += 1;
-    }
-    Piece {
-        field,
-        end: 0,
-        next: 0,
-    }
-}
-
-// Reads more of the list, and answers how many bytes; 0 at its end.
-fn read_some(list: &mut impl io::Read, buffer: &mut [u8; INPUT]) -> usize {
-    match list.read(buffer) {
-        Ok(count) => count,
-        Err(_) => 0,
-    }
-}
-
-// The next field. A proved loop has to end, and nothing says that a list does: the turns are counted down from a number that no run uses
-// up.
-fn next_field(
-    list: &mut impl io::Read,
-    buffer: &mut [u8; INPUT],
-    begin: usize,
-    end: usize,
-) -> Ended {
-    let mut field = Field::empty();
-    let mut from = begin;
-    let mut upto = end;
-    let mut turns = u64::MAX;
-    while 0 < turns {
-        turns -= 1;
-        let piece = scan(buffer, from, upto, field);
-        field = piece.field;
-        if 0 < piece.next {
-            return Ended {
-                field,
-                end: piece.end,
-                over: false,
-                from: piece.next,
-                upto,
-            };
-        }
-        from = 0;
-        upto = read_some(list, buffer);
-        if upto == 0 {
-            return Ended::over();
-        }
-    }
-    Ended::over()
-}
-
-// How many fields stand between a command and its values. Where it has no values none of its fields is one.
-fn numbers_before(command: u64) -> usize {
-    match command {
-        names::FONT | names::CU | names::PANEL | names::OUT | names::FILE => 0,
-        names::KEEP1 | names::FLIP1 | names::KEEP2 | names::FLIP2 => 0,
-        names::COUNTS => 0,
-        names::MEASURE => 1,
-        names::PAINT | names::PAINTLIT => 7,
-        names::GATHER => 8,
-        _ => 1000,
-    }
-}
-
-// Puts a word into the list so often, from a place on, and answers where that ends. What the list has no room for is left out.
-fn fill(list: &mut [u16], from: usize, times: u64, word: u16) -> usize {
-    if list.len() <= from {
-        return from;
-    }
-    let end = from + words::least(times as usize, list.len() - from);
-    let mut i = from;
-    while i < end {
-        list[i] = word;
-        i += 1;
-    }
-    end
-}
-
-impl Ended {
-    fn over() -> Ended {
-        Ended {
-            field: Field::empty(),
-            end: 0,
-            over: true,
-            from: 0,
-            upto: 0,
-        }
+        self.digits as i64
     }
 }
 
 impl Line {
-    fn empty() -> Line
+    #[tactic(auto, unfolding(crate::specs::Lines::empty_line))]
+    pub fn empty() -> Line
         ensures { result ≡ empty_line }
     {
         Line {
-            command: 0,
+            command: Command::Other,
             fields: 0,
             name: 0,
-            numbers: [4_294_967_296; 8],
-            values: 0,
+            numbers: [0; 8],
+            values: ArrayVec::new(),
         }
     }
 
-    // The line with one more field.
-    fn with(mut self, field: Field, values: &mut [u16; VALUES]) -> Line {
+    #[tactic(auto, unfolding(crate::specs::Lines::empty_line))]
+    fn clear(&mut self)
+        ensures { self.new ≡ empty_line }
+    {
+        self.command = Command::Other;
+        self.fields = 0;
+        self.name = 0;
+        self.numbers = [0; 8];
+        self.values.clear();
+    }
+
+    // Adds a field. Values that there is no room for are left out.
+    fn add(&mut self, field: Field) {
         let k = self.fields;
-        self.fields = words::least(k, 999) + 1;
+        self.fields = k.saturating_add(1);
         if k == 0 {
-            self.command = field.name;
-            return self;
+            self.command = Command::named(field.name);
+            return;
         }
-        if numbers_before(self.command) < k {
-            self.values = fill(values, self.values, field.times(), field.word);
-            return self;
+        if self.has_values_at(k) {
+            self.fill(field.times(), field.word);
+            return;
         }
         self.name = field.name;
         if k <= 8 {
             self.numbers[k - 1] = field.number();
         }
-        self
     }
 
-    // Number k behind the command, from 0, as it is counted; zero past those that a line has.
-    fn counted(self, k: usize) -> u64
-        ensures { result ≡ counted_of self k }
-    {
-        if 7 < k {
-            return 4_294_967_296;
+    // Field k, counted from the command, is a value.
+    fn has_values_at(&self, k: usize) -> bool {
+        match self.command.numbers() {
+            Some(numbers) => numbers < k,
+            None => false,
         }
-        self.numbers[k]
+    }
+
+    fn fill(&mut self, times: u64, word: u16) {
+        for _ in 0..times.min(VALUES as u64) {
+            let _ = self.values.try_push(word);
+        }
+    }
+
+    // Number k behind the command, from 0; zero past those that a line has.
+    #[tactic(auto, unfolding(crate::specs::Lines::counted_of))]
+    fn counted(&self, k: usize) -> i64
+        ensures { result ≡ counted_of self.now k }
+    {
+        self.numbers.get(k).copied().unwrap_or(0)
     }
 
     // The same, for one that has no sign.
-    pub fn number(self, k: usize) -> u32
-        ensures { result ≡ number_of self k }
+    #[tactic(auto, unfolding(crate::specs::Lines::number_of))]
+    pub fn number(&self, k: usize) -> u32
+        ensures { result ≡ number_of self.now k }
     {
         unsigned(self.counted(k))
     }
 
     // The same, for one that may have a sign.
-    pub fn signed(self, k: usize) -> i32
-        ensures { result ≡ signed_of self k }
+    #[tactic(auto, unfolding(crate::specs::Lines::signed_of))]
+    pub fn signed(&self, k: usize) -> i32
+        ensures { result ≡ signed_of self.now k }
     {
         signed(self.counted(k))
     }
 }
 
-// A number without a sign, from one counted from 4294967296 below zero; 0 where it does not fit.
-fn unsigned(n: u64) -> u32
-    ensures { result ≡ unsigned_at n }
+// A number without a sign; 0 where it does not fit.
+#[tactic(auto, unfolding(crate::specs::Lines::unsigned_in))]
+fn unsigned(n: i64) -> u32
+    ensures { result ≡ unsigned_in n }
 {
-    if n < 4_294_967_296 {
-        return 0;
-    }
-    if 8_589_934_591 < n {
-        return 0;
-    }
-    (n - 4_294_967_296) as u32
+    u32::try_from(n).unwrap_or(0)
 }
 
-// A number with a sign, from one counted from 4294967296 below zero; the nearest where it does not fit.
-fn signed(n: u64) -> i32
-    ensures { result ≡ signed_at n }
+// A number with a sign; the nearest where it does not fit.
+#[tactic(auto, unfolding(crate::specs::Lines::signed_in))]
+fn signed(n: i64) -> i32
+    ensures { result ≡ signed_in n }
 {
-    if n < 2_147_483_649 {
-        return -2_147_483_648;
-    }
-    if 6_442_450_943 < n {
-        return 2_147_483_647;
-    }
-    if n < 4_294_967_296 {
-        return -((4_294_967_296 - n) as i32);
-    }
-    (n - 4_294_967_296) as i32
+    n.clamp(i32::MIN as i64, i32::MAX as i64) as i32
 }
 
-impl Read {
-    fn without_line(over: bool) -> Read
-        ensures { result ≡ without_line over }
+impl<R: io::Read + Drop> List<R> {
+    pub fn new(bytes: R) -> List<R>
+        ensures from { result.from ≡ 0 }
+        ensures upto { result.upto ≡ 0 }
     {
-        Read {
-            line: Line::empty(),
-            over,
+        List {
+            bytes,
+            buffer: [0; INPUT],
             from: 0,
             upto: 0,
         }
     }
 
-    // Before the first line.
-    pub fn nothing() -> Read
-        ensures { result ≡ nothing_read }
-    {
-        Read::without_line(false)
-    }
-
-    // Behind the last.
-    fn over() -> Read
-        ensures { result ≡ all_read }
-    {
-        Read::without_line(true)
-    }
-}
-
-// The line behind the one read before; turns are counted as for a field.
-pub fn next_line(
-    list: &mut impl io::Read,
-    before: Read,
-    buffer: &mut [u8; INPUT],
-    values: &mut [u16; VALUES],
-) -> Read
-    ensures { result.over ≡ true → result ≡ all_read }
-{
-    let mut line = Line::empty();
-    let mut from = before.from;
-    let mut upto = before.upto;
-    let mut turns = u64::MAX;
-    while 0 < turns {
-        turns -= 1;
-        let ended = next_field(list, buffer, from, upto);
-        if ended.over {
-            return Read::over();
-        }
-        let field = ended.field;
-        line = line.with(field, values);
-        from = ended.from;
-        upto = ended.upto;
-        if ended.end == b'\n' {
-            return Read {
-                line,
-                over: false,
-                from,
-                upto,
-            };
+    // Reads more of the list, and answers how many bytes; none at its end.
+    fn more(&mut self) -> Option<usize> {
+        match self.bytes.read(&mut self.buffer) {
+            Ok(count) if 0 < count => Some(count),
+            _ => None,
         }
     }
-    Read::over()
+
+    // The next byte; none at the end of the list.
+    fn next_byte(&mut self) -> Option<u8> {
+        if self.upto <= self.from {
+            self.upto = self.more()?;
+            self.from = 0;
+        }
+        let b = self.buffer.get(self.from).copied()?;
+        self.from = self.from.saturating_add(1);
+        Some(b)
+    }
+
+    // The next field, and the byte that ends it. A proved loop has to end, and nothing says that a list does: no run uses so many turns up.
+    fn next_field(&mut self) -> Option<(Field, u8)> {
+        let mut field = Field::empty();
+        for _ in 0..u64::MAX {
+            let b = self.next_byte()?;
+            if b <= b' ' {
+                return Some((field, b));
+            }
+            field = field.with(b);
+        }
+        None
+    }
+
+    // Makes the line the next one of the list; none is left at its end. Turns are counted as for a field.
+    pub fn next_line(&mut self, line: &mut Line) -> Option<()> {
+        line.clear();
+        for _ in 0..u64::MAX {
+            let (field, end) = self.next_field()?;
+            line.add(field);
+            if end == b'\n' {
+                return Some(());
+            }
+        }
+        None
+    }
 }

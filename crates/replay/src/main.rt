@@ -11,120 +11,58 @@ mod registers;
 mod sheet_calls;
 mod text;
 
-use list::{INPUT, Line, Read, VALUES};
-use registers::{BYTES, FILES, Held, LENT, SHEETS};
+ghost use Rattle.replay.specs.Text.{Puts};
+ghost use Rattle.replay.specs.Answers.{answer_of, Leaves};
+
+use list::{Line, List};
+use names::Command;
+use registers::Registers;
 use std::io;
-use text::{TEXT, write};
-
-// The most bytes that a label in a list has.
-const LABEL: usize = 1_000;
-
-// What the registers hold, and how much text waits to be written.
-#[derive(Clone, Copy)]
-pub struct State {
-    pub held: Held,
-    pub at: usize,
-}
+use text::Output;
 
 // Performs a line.
-fn perform(
-    rt: &impl Print,
-    line: Line,
-    state: State,
-    values: &mut [u16; VALUES],
-    files: &mut [u16; FILES],
-    lent: &mut [u16; LENT],
-    keeps: &mut [u16; SHEETS],
-    flips: &mut [u16; SHEETS],
-    bytes: &mut [u8; BYTES],
-    text: &mut [u8; TEXT],
-) -> State {
-    let before = state.held;
-    let held = registers::set(line, values, before, files, lent, keeps, flips, bytes);
-    let at = registers::show(
-        rt, line, values, held, files, lent, keeps, flips, bytes, text, state.at,
-    );
-    let state = convert_calls::answer(rt, line, values, State { held, at }, files, lent, text);
-    let held = state.held;
-    let font = registers::held_words(files, held, names::FONT);
-    let at = font_calls::answer(rt, line, font, text, state.at);
-    let mut codes = [0u8; LABEL];
-    let count = registers::narrow(values, line.values, &mut codes);
-    let label = text::start(&codes, count);
-    let at = label_calls::answer(rt, line, font, label, held, lent, text, at);
-    let at = sheet_calls::answer_join(rt, line, values, State { held, at }, keeps, flips, text);
-    let at = sheet_calls::answer_gather(
-        rt,
-        line,
-        font,
-        label,
-        State { held, at },
-        keeps,
-        flips,
-        text,
-    );
-    let at = sheet_calls::answer(rt, line, State { held, at }, lent, keeps, flips, text);
-    count_calls::answer(rt, line, font, label, held, lent, keeps, flips, text, at)
-}
-
-// Writes out what has been put into the text.
-fn flush(rt: &impl Print, text: &[u8; TEXT], at: usize) {
-    write(rt, text::start(text, at));
-}
-
-// Performs line after line. A proved loop has to end, and nothing says that a list does: the turns are counted down from a number that no
-// run uses up.
-fn run(
-    rt: &impl Print,
-    from: &mut impl io::Read,
-    buffer: &mut [u8; INPUT],
-    values: &mut [u16; VALUES],
-    files: &mut [u16; FILES],
-    lent: &mut [u16; LENT],
-    keeps: &mut [u16; SHEETS],
-    flips: &mut [u16; SHEETS],
-    bytes: &mut [u8; BYTES],
-    text: &mut [u8; TEXT],
-) {
-    let mut read = Read::nothing();
-    let mut state = State {
-        held: Held::nothing(),
-        at: 0,
-    };
-    let mut turns = u64::MAX;
-    while 0 < turns {
-        turns -= 1;
-        read = list::next_line(from, read, buffer, values);
-        if read.over {
-            flush(rt, text, state.at);
-            return;
-        }
-        let line = read.line;
-        state = perform(
-            rt, line, state, values, files, lent, keeps, flips, bytes, text,
-        );
+#[tactic(auto, unfolding(crate::specs::Answers::answer_of, crate::specs::Answers::Leaves, crate::specs::Text::with_bytes))]
+fn perform(line: &Line, registers: &mut Registers, output: &mut Output<impl Print>)
+    ensures puts { Puts output (answer_of line.now.command line.now registers.old) }
+    ensures registers { Leaves line.now.command line.now registers.old registers.new }
+{
+    match line.command {
+        Command::Set(register) => registers.set(register, line.values.as_slice()),
+        Command::Show => registers.show(line.name, output),
+        Command::Written => registers.font_from_written(),
+        Command::Convert => convert_calls::convert(registers, output),
+        Command::Check => font_calls::check(registers.font.as_slice(), output),
+        Command::Glyph => font_calls::glyph(line, registers.font.as_slice(), output),
+        Command::Dots => font_calls::dots(line, registers.font.as_slice(), output),
+        Command::Row => font_calls::row(line, registers.font.as_slice(), output),
+        Command::Measure => label_calls::measure(line, registers.font.as_slice(), output),
+        Command::Paint => label_calls::paint(line, registers, output),
+        Command::PaintLit => count_calls::paint_lit(line, registers, output),
+        Command::Fresh => sheet_calls::fresh(line, registers, output),
+        Command::Gather => sheet_calls::gather(line, registers, output),
+        Command::Join => sheet_calls::join(line, registers, output),
+        Command::Apply => sheet_calls::apply(line, registers, output),
+        Command::ApplyLit => count_calls::apply_lit(line, registers, output),
+        Command::Clear => count_calls::clear(line, registers, output),
+        Command::Other => {}
     }
 }
 
+// Performs line after line. A proved loop has to end, and nothing says that a list does: no run uses so many turns up.
+fn run(rt: &impl Print, bytes: impl io::Read + Drop) {
+    let mut list = List::new(bytes);
+    let mut line = Line::empty();
+    let mut registers = Registers::empty();
+    let mut output = Output::new(rt);
+    for _ in 0..u64::MAX {
+        if list.next_line(&mut line).is_none() {
+            break;
+        }
+        perform(&line, &mut registers, &mut output);
+    }
+    output.flush();
+}
+
 fn main(rt: HostRuntime) {
-    let mut buffer = [0u8; INPUT];
-    let mut values = [0u16; VALUES];
-    let mut files = [0u16; FILES];
-    let mut lent = [0u16; LENT];
-    let mut keeps = [0u16; SHEETS];
-    let mut flips = [0u16; SHEETS];
-    let mut bytes = [0u8; BYTES];
-    let mut text = [0u8; TEXT];
-    run(
-        &rt,
-        &mut rt.stdin(),
-        &mut buffer,
-        &mut values,
-        &mut files,
-        &mut lent,
-        &mut keeps,
-        &mut flips,
-        &mut bytes,
-        &mut text,
-    );
+    run(&rt, rt.stdin());
 }

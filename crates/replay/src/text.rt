@@ -1,68 +1,185 @@
-// The answers' text, gathered in an array and written out where that is full. Each function puts something behind the first `at` bytes and
-// answers how many there are then.
-ghost use Rattle.std.specs.Prelude.{◌≡◌, ◌<◌, [], ◌∷◌, ◌++◌, nat_abs, length, take};
-ghost use Rattle.replay.specs.Text.{waiting, with_byte, Puts, character_of, pair_bytes, name_bytes, decimal};
-ghost use Rattle.replay.specs.Text.{number_bytes, negative_bytes, signed_bytes, digit_of, low_bytes, value_bytes, run_bytes, list_bytes};
-ghost use Rattle.replay.specs.Text.{RunEnds};
+// The answers' text, gathered in an array and written out where that is full.
+ghost use Rattle.std.specs.Prelude.{◌≡◌, ◌<◌, [], ◌∷◌, take, decimal};
+ghost use Rattle.replay.specs.Text.{nothing_waits, written, with_byte, Puts, character_of, pair_bytes, name_bytes, field_bytes};
+ghost use Rattle.replay.specs.Text.{digit_of, low_bytes, value_bytes, run_bytes, list_bytes};
 
-use itoa::Buffer;
+use itoa::{Buffer, Integer};
+use std::marker::Model;
 
-pub const TEXT: usize = 65_536;
+const TEXT: usize = 65_536;
 
-// Writes bytes out. No answer tells of a write that failed, and the list is performed to its end all the same.
-pub fn write(rt: &impl Print, bytes: &[u8]) {
-    let _ = rt.write_all(bytes);
+// The text, of which the first `at` bytes wait to be written.
+#[derive(Drop)]
+pub struct Output<'a, P: Print> {
+    rt: &'a P,
+    text: [u8; TEXT],
+    at: usize,
 }
 
-#[tactic(auto, unfolding(crate::specs::Text::place_for, crate::specs::Text::with_byte))]
-pub fn put(rt: &impl Print, text: &mut [u8; TEXT], at: usize, b: u8) -> usize
-    ensures { waiting text.new result ≡ with_byte (waiting text.old at) b }
-{
-    if at < TEXT {
-        text[at] = b;
-        return at + 1;
-    }
-    write(rt, text);
-    text[0] = b;
-    1
+impl<'a, P: Print> Model for Output<'a, P> {
+    ghost use Rattle.replay.specs.Text.{Waiting, waiting};
+
+    ghost Value = { Waiting };
+
+    ghost view = { λ o. waiting o.text o.at };
 }
 
-// The first `count` bytes; fewer where there are no more.
-pub fn start(bytes: &[u8], count: usize) -> &[u8]
-    ensures { result.now ≡ take count bytes.now }
-{
-    if bytes.len() <= count {
-        return bytes;
+impl<'a, P: Print> Output<'a, P> {
+    pub fn new(rt: &'a P) -> Output<'a, P>
+        ensures { result ≡ nothing_waits }
+    {
+        Output {
+            rt,
+            text: [0; TEXT],
+            at: 0,
+        }
     }
-    &bytes[0..count]
+
+    // Writes out what waits. No answer tells of a write that failed, and the list is performed to its end all the same.
+    pub fn flush(&mut self)
+        ensures { self.new ≡ written self.old }
+    {
+        let _ = self.rt.write_all(start(&self.text, self.at));
+        self.at = 0;
+    }
+
+    #[tactic(auto, unfolding(crate::specs::Text::place_for, crate::specs::Text::with_byte))]
+    pub fn put(&mut self, b: u8)
+        ensures { self.new ≡ with_byte self.old b }
+    {
+        if self.at < TEXT {
+            self.text[self.at] = b;
+            self.at += 1;
+            return;
+        }
+        self.flush();
+        self.text[0] = b;
+        self.at = 1;
+    }
+
+    pub fn put_all(&mut self, bytes: &[u8])
+        ensures { Puts self bytes.now }
+    {
+        for &b in bytes {
+            self.put(b);
+        }
+    }
+
+    // The characters of a name, from the first two digits of its number on.
+    pub fn put_name(&mut self, name: u64)
+        ensures { Puts self (name_bytes name) }
+    {
+        for k in 0..9 {
+            self.put_pair(name / 100u64.pow(8 - k) % 100);
+        }
+    }
+
+    // The character of two digits of a name; none for the zeros before its first.
+    fn put_pair(&mut self, pair: u64)
+        requires { pair < 100 }
+        ensures { Puts self (pair_bytes pair) }
+    {
+        if 0 < pair {
+            self.put(character(pair));
+        }
+    }
+
+    fn put_digits<I: Integer>(&mut self, n: I)
+        ensures { Puts self (I.text n) }
+    {
+        let mut digits = Buffer::new();
+        self.put_all(digits.format(n).as_bytes());
+    }
+
+    // A field that is a number.
+    pub fn put_number<I: Integer>(&mut self, n: I)
+        ensures { Puts self (field_bytes (I.text n)) }
+    {
+        self.put(b' ');
+        self.put_digits(n);
+    }
+
+    fn put_hexadecimal(&mut self, digit: u16)
+        requires { digit < 16 }
+        ensures { Puts self (digit_of digit ∷ []) }
+    {
+        if digit < 10 {
+            self.put(b'0' + digit as u8);
+        } else {
+            self.put(b'A' + (digit - 10) as u8);
+        }
+    }
+
+    // The last two hexadecimal digits of a word.
+    fn put_low(&mut self, word: u16)
+        ensures { Puts self (low_bytes word) }
+    {
+        self.put_hexadecimal(word / 16 % 16);
+        self.put_hexadecimal(word % 16);
+    }
+
+    // A field that is a byte or a word.
+    pub fn put_value(&mut self, word: u16, digits: Digits)
+        ensures { Puts self (value_bytes digits word) }
+    {
+        self.put(b' ');
+        match digits {
+            Digits::Two => self.put_low(word),
+            Digits::Four => {
+                self.put_low(word / 256);
+                self.put_low(word);
+            }
+        }
+    }
+
+    fn put_run(&mut self, word: u16, digits: Digits, count: usize)
+        ensures { Puts self (run_bytes digits word count) }
+    {
+        self.put_value(word, digits);
+        if 1 < count {
+            self.put(b'*');
+            self.put_digits(count);
+        }
+    }
+
+    // A list of words or bytes, each run of equal ones as one field.
+    pub fn put_list(&mut self, list: &[u16], digits: Digits)
+        ensures { Puts self (list_bytes digits list.now) }
+    {
+        let Some((&first, rest)) = list.split_first() else {
+            return;
+        };
+        self.put_runs(first, rest, digits);
+    }
+
+    // A word and those behind it.
+    fn put_runs(&mut self, first: u16, rest: &[u16], digits: Digits)
+        ensures { Puts self (list_bytes digits (first ∷ rest.now)) }
+    {
+        let mut run = first;
+        let mut count = 1;
+        for &word in rest {
+            if word == run {
+                count += 1;
+                continue;
+            }
+            self.put_run(run, digits, count);
+            run = word;
+            count = 1;
+        }
+        self.put_run(run, digits, count);
+    }
 }
 
-fn put_all(rt: &impl Print, text: &mut [u8; TEXT], at: usize, bytes: &[u8]) -> usize
-    ensures { Puts text at bytes.now result }
-{
-    let mut end = at;
-    let mut i = 0;
-    while i < bytes.len() {
-        end = put(rt, text, end, bytes[i]);
-        i += 1;
-    }
-    end
-}
-
-// The characters of a name, from the first two digits of its number on.
-pub fn put_name(rt: &impl Print, text: &mut [u8; TEXT], at: usize, name: u64) -> usize
-    ensures { Puts text at (name_bytes name) result }
-{
-    let mut end = at;
-    let mut scale: u64 = 10_000_000_000_000_000;
-    while 0 < scale {
-        end = put_pair(rt, text, end, name / scale % 100);
-        scale /= 100;
-    }
-    end
+// How many hexadecimal digits a value has: two for a byte, four for a word.
+#[derive(Clone, Copy)]
+pub enum Digits {
+    Two,
+    Four,
 }
 
 // The character that two digits of a name stand for.
+#[tactic(auto, unfolding(crate::specs::Text::character_of))]
 fn character(pair: u64) -> u8
     requires { pair < 100 }
     ensures { result ≡ character_of pair }
@@ -73,142 +190,12 @@ fn character(pair: u64) -> u8
     pair as u8
 }
 
-// The character of two digits of a name; none for the zeros before its first.
-fn put_pair(rt: &impl Print, text: &mut [u8; TEXT], at: usize, pair: u64) -> usize
-    requires { pair < 100 }
-    ensures { Puts text at (pair_bytes pair) result }
+// The first `count` bytes; fewer where there are no more.
+fn start(bytes: &[u8], count: usize) -> &[u8]
+    ensures { result.now ≡ take count bytes.now }
 {
-    if pair == 0 {
-        return at;
+    if bytes.len() <= count {
+        return bytes;
     }
-    put(rt, text, at, character(pair))
-}
-
-fn put_digits(rt: &impl Print, text: &mut [u8; TEXT], at: usize, n: u64) -> usize
-    ensures { Puts text at (decimal n) result }
-{
-    let mut digits = Buffer::new();
-    put_all(rt, text, at, digits.format(n).as_bytes())
-}
-
-// A field that is a number.
-pub fn put_number(rt: &impl Print, text: &mut [u8; TEXT], at: usize, n: u64) -> usize
-    ensures { Puts text at (number_bytes n) result }
-{
-    let at = put(rt, text, at, b' ');
-    put_digits(rt, text, at, n)
-}
-
-// A field that is a number below zero, by how much.
-pub fn put_negative(rt: &impl Print, text: &mut [u8; TEXT], at: usize, below: u64) -> usize
-    ensures { Puts text at (negative_bytes below) result }
-{
-    let at = put(rt, text, at, b' ');
-    let at = put(rt, text, at, b'-');
-    put_digits(rt, text, at, below)
-}
-
-// A number without its sign.
-fn size(n: i32) -> u64
-    ensures { result ≡ nat_abs n }
-{
-    if n < 0 {
-        return (0 - n as i64) as u64;
-    }
-    n as u64
-}
-
-// A field that is a number with a sign.
-pub fn put_signed(rt: &impl Print, text: &mut [u8; TEXT], at: usize, n: i32) -> usize
-    ensures { Puts text at (signed_bytes n) result }
-{
-    if n < 0 {
-        return put_negative(rt, text, at, size(n));
-    }
-    put_number(rt, text, at, size(n))
-}
-
-fn put_hexadecimal(rt: &impl Print, text: &mut [u8; TEXT], at: usize, digit: u16) -> usize
-    requires { digit < 16 }
-    ensures { Puts text at (digit_of digit ∷ []) result }
-{
-    if digit < 10 {
-        return put(rt, text, at, 48 + digit as u8);
-    }
-    put(rt, text, at, 55 + digit as u8)
-}
-
-// The last two hexadecimal digits of a word.
-fn put_low(rt: &impl Print, text: &mut [u8; TEXT], at: usize, word: u16) -> usize
-    ensures { Puts text at (low_bytes word) result }
-{
-    let at = put_hexadecimal(rt, text, at, word / 16 % 16);
-    put_hexadecimal(rt, text, at, word % 16)
-}
-
-// A field that is a byte where it is two digits wide, and else a word.
-pub fn put_value(rt: &impl Print, text: &mut [u8; TEXT], at: usize, word: u16, width: u32) -> usize
-    ensures { Puts text at (value_bytes width word) result }
-{
-    let at = put(rt, text, at, b' ');
-    if width == 2 {
-        return put_low(rt, text, at, word);
-    }
-    let at = put_low(rt, text, at, word / 256);
-    put_low(rt, text, at, word)
-}
-
-fn put_run(
-    rt: &impl Print,
-    text: &mut [u8; TEXT],
-    at: usize,
-    word: u16,
-    width: u32,
-    count: u64,
-) -> usize
-    ensures { Puts text at (run_bytes width word count) result }
-{
-    let at = put_value(rt, text, at, word, width);
-    if count < 2 {
-        return at;
-    }
-    let at = put(rt, text, at, b'*');
-    put_digits(rt, text, at, count)
-}
-
-// Where the run of equal words that begins at a place ends.
-fn run_end(list: &[u16], from: usize) -> usize
-    requires { from < length list.now }
-    ensures lower_bound { from < result }
-    ensures run { RunEnds list.now from result }
-{
-    let word = list[from];
-    let mut i = from + 1;
-    while i < list.len() {
-        if list[i] != word {
-            return i;
-        }
-        i += 1;
-    }
-    i
-}
-
-// A list of words or bytes, each run of equal ones as one field.
-pub fn put_list(
-    rt: &impl Print,
-    text: &mut [u8; TEXT],
-    at: usize,
-    list: &[u16],
-    width: u32,
-) -> usize
-    ensures { Puts text at (list_bytes width list.now) result }
-{
-    let mut end = at;
-    let mut i = 0;
-    while i < list.len() {
-        let next = run_end(list, i);
-        end = put_run(rt, text, end, list[i], width, (next - i) as u64);
-        i = next;
-    }
-    end
+    &bytes[..count]
 }

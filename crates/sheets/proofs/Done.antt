@@ -1,14 +1,16 @@
 -- Calls that 8 alone refuses: where it does what was lent stays; else the call does its work.
 use Prim.Native.Nat.{ℕ}
-use mathlib.Core.Path.{◌≡◌, refl, ap, ◌∙◌}
+use mathlib.Core.Path.{◌≡◌, ap, ◌∙◌}
 use mathlib.Core.Bool.{true, false, cond}
 use mathlib.Core.List.{List, [], ◌∷◌}
 use lib.Dec.{eqb}
-use borrow.Author.Tests.{ne_eqb, eqb-false}
+use borrow.Author.Tests.{ne_eqb}
+use Rattle.words.specs.declared.refusal.Refusal.{Refusal}
 use Rattle.paint.specs.declared.Shape.{Shape}
 use Rattle.paint.specs.Panel.{bad_panel, panel_number}
 use Rattle.paint.specs.Sheet.{Sheet}
-use Rattle.words.specs.Refusal.{first_of}
+use Rattle.words.specs.Refusal.{number_of, first_of}
+use Rattle.words.proofs.Refusals.{number-not-0}
 use Rattle.paint.proofs.Slices.{passed-by-first, passed-alone}
 
 -- ---- the number
@@ -40,8 +42,8 @@ module _ {A : Type 0} (number : ℕ) (made lent : A) where
   pub refused : (n : ℕ) → n ≡ number → (n ≡ 0 → ⊥) → lent ≡ cond (eqb number 0) made lent
   refused n e some = rw (← e) (rw (ne_eqb n 0 some))
 
-  pub refused-by-8 : 8 ≡ number → lent ≡ cond (eqb number 0) made lent
-  refused-by-8 e = refused 8 e (eqb-false 8 0 refl)
+  pub refused-as : (refusal : Refusal) → number_of refusal ≡ number → lent ≡ cond (eqb number 0) made lent
+  refused-as refusal e = refused (number_of refusal) e (number-not-0 refusal)
 
   pub done : 0 ≡ number → made ≡ cond (eqb number 0) made lent
   done e = rw (← e)

@@ -1,4 +1,6 @@
 -- The sheet that gathering leaves, by what reading the font answered.
+use Rattle.words.specs.declared.refusal.Refusal.{Refusal}
+use Rattle.words.specs.Refusal.{number_of}
 use Prim.Native.Nat.{ℕ}
 use mathlib.Core.Path.{◌≡◌}
 use mathlib.Core.List.{List}
@@ -12,12 +14,12 @@ use Rattle.paint.specs.Sheet.{Sheet, lengths}
 use Rattle.paint.specs.Label.{Call, call_of, join_with}
 use Rattle.paint.proofs.Replies.{number-refused, face-read, number_read}
 use Rattle.sheets.specs.Sheet.{gather_after}
-use Rattle.sheets.proofs.Done.{refused}
+use Rattle.sheets.proofs.Done.{refused-as}
 
-pub gather-refused : (s : Shape) (call : Call) (sheet : Sheet) (n : ℕ) → n ≡ font_number call.font → (n ≡ 0 → ⊥)
+pub gather-refused : (s : Shape) (call : Call) (sheet : Sheet) (refusal : Refusal) → number_of refusal ≡ font_number call.font
     → sheet ≡ gather_after s call sheet
 unfolding gather_after
-gather-refused s call sheet n e some = refused _ _ sheet n (number-refused call n e some s (lengths sheet)) some
+gather-refused s call sheet refusal e = refused-as _ _ sheet refusal (number-refused call refusal e s (lengths sheet))
 
 pub gather-read : (s : Shape) (font : List ℕ) (v : View) (l : Label) (text : List ℕ) (sheet : Sheet) → font_number font ≡ 0
     → v ≡ view_of font

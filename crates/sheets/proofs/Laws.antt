@@ -17,9 +17,8 @@ use Rattle.words.proofs.Effects.{identity-join, same_effect}
 use Rattle.words.proofs.Altering.{AllWords, altered-same, altered-length, from_zero}
 use Rattle.fonts.specs.Face.{face_of}
 use Rattle.paint.specs.declared.Shape.{Shape}
-use Rattle.paint.specs.declared.Reply.{Reply}
 use Rattle.paint.specs.Panel.{panel_words, bad_panel, panel_number}
-use Rattle.paint.specs.Label.{Call, call_number, call_effect, paint_after, last_pen, reply_for, reply_of}
+use Rattle.paint.specs.Label.{Call, Reply, call_number, call_effect, paint_after, last_pen, reply_for, reply_of}
 use Rattle.paint.specs.Sheet.{Sheet, lengths, effect_at}
 use Rattle.paint.proofs.Accepted.{good-panel, just_enough}
 use Rattle.paint.proofs.Slices.{passed-alone}

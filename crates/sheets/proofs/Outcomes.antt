@@ -3,6 +3,7 @@ use mathlib.Core.Path.{◌≡◌, sym, ◌∙◌}
 use contract.Lifetimes.{Lfts}
 use denote.Triple.Clauses.{AtExit}
 use borrow.Fn.Kinds.{Dens, res_t, ended_of}
+use Rattle.fonts.proofs.Readings.{same-answer}
 use Rattle.sheets.proofs.fresh as fresh
 use Rattle.sheets.proofs.join as join
 use Rattle.sheets.proofs.apply as apply
@@ -13,25 +14,25 @@ pub fresh-one : (κs : Lfts 2) (a : Dens κs fresh.Kinds.ps) (r o : (res_t fresh
     (e e' : AtExit (ended_of 2 fresh.Kinds.ps fresh.Kinds.r) κs)
     → fresh.Reads.Post κs a r e → fresh.Reads.Post κs a o e'
     → (r ≡ o) × (e.1.0.now ≡ e'.1.0.now) × (e.1.1.0.now ≡ e'.1.1.0.now)
-fresh-one κs a r o e e' p q = (p.0 ∙ sym q.0, p.1.0 ∙ sym q.1.0, p.1.1 ∙ sym q.1.1)
+fresh-one κs a r o e e' p q = (same-answer r o (p.0 ∙ sym q.0), p.1.0 ∙ sym q.1.0, p.1.1 ∙ sym q.1.1)
 
 pub join_one : (κs : Lfts 4) (a : Dens κs join.Kinds.ps) (r o : (res_t join.Kinds.r κs).Denot)
     (e e' : AtExit (ended_of 4 join.Kinds.ps join.Kinds.r) κs)
     → join.Reads.Post κs a r e → join.Reads.Post κs a o e'
     → (r ≡ o) × (e.1.0.now ≡ e'.1.0.now) × (e.1.1.0.now ≡ e'.1.1.0.now)
-join_one κs a r o e e' p q = (p.0 ∙ sym q.0, p.1.0 ∙ sym q.1.0, p.1.1 ∙ sym q.1.1)
+join_one κs a r o e e' p q = (same-answer r o (p.0 ∙ sym q.0), p.1.0 ∙ sym q.1.0, p.1.1 ∙ sym q.1.1)
 
 pub apply-one : (κs : Lfts 3) (a : Dens κs apply.Kinds.ps) (r o : (res_t apply.Kinds.r κs).Denot)
     (e e' : AtExit (ended_of 3 apply.Kinds.ps apply.Kinds.r) κs)
     → apply.Reads.Post κs a r e → apply.Reads.Post κs a o e'
     → (r ≡ o) × (e.1.1.1.0.now ≡ e'.1.1.1.0.now)
-apply-one κs a r o e e' p q = (p.0 ∙ sym q.0, p.1 ∙ sym q.1)
+apply-one κs a r o e e' p q = (same-answer r o (p.0 ∙ sym q.0), p.1 ∙ sym q.1)
 
 pub clear-one : (κs : Lfts 1) (a : Dens κs clear.Kinds.ps) (r o : (res_t clear.Kinds.r κs).Denot)
     (e e' : AtExit (ended_of 1 clear.Kinds.ps clear.Kinds.r) κs)
     → clear.Reads.Post κs a r e → clear.Reads.Post κs a o e'
     → (r ≡ o) × (e.1.0.now ≡ e'.1.0.now)
-clear-one κs a r o e e' p q = (p.0 ∙ sym q.0, p.1 ∙ sym q.1)
+clear-one κs a r o e e' p q = (same-answer r o (p.0 ∙ sym q.0), p.1 ∙ sym q.1)
 
 pub gather-one : (κs : Lfts 4) (a : Dens κs gather.Kinds.ps) (r o : (res_t gather.Kinds.r κs).Denot)
     (e e' : AtExit (ended_of 4 gather.Kinds.ps gather.Kinds.r) κs)

@@ -1,8 +1,7 @@
 -- Lists of label calls of one panel size: what demand 3 speaks of.
 use Rattle.std.specs.Prelude.{ℕ, ◌≤◌, ◌≡◌, cond, List, [], ◌∷◌, eqb, length}
 use Rattle.paint.specs.declared.Shape.{Shape}
-use Rattle.paint.specs.declared.Reply.{Reply}
-use Rattle.paint.specs.Label.{Call, paint_after, reply_of}
+use Rattle.paint.specs.Label.{Call, Reply, paint_after, reply_of}
 use Rattle.paint.specs.Sheet.{Sheet}
 use Rattle.sheets.specs.Sheet.{gather_after, gather_reply}
 

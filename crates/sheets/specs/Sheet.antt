@@ -3,10 +3,9 @@ use Rattle.std.specs.Prelude.{ℕ, cond, List, [], ◌∷◌, eqb, length, take,
 use Rattle.words.specs.Word.{over}
 use Rattle.words.specs.Effect.{identity, altered}
 use Rattle.paint.specs.declared.Shape.{Shape}
-use Rattle.paint.specs.declared.Reply.{Reply}
 use Rattle.paint.specs.Panel.{panel_words, panel_number}
 use Rattle.paint.specs.Sheet.{Sheet, lengths, effect_at, written, joined}
-use Rattle.paint.specs.Label.{Call, call_number, call_effect, reply_of}
+use Rattle.paint.specs.Label.{Call, Reply, call_number, call_effect, reply_of}
 
 -- "The effect that alters nothing is keep FFFF, flip 0; a fresh sheet is made of it."
 unfoldable pub fresh_number : Shape → Sheet → ℕ

@@ -1,5 +1,6 @@
 pub mod Compute
 pub mod Chain
+pub mod Refusals
 pub mod Digits
 pub mod BitLaws
 pub mod Lists

@@ -8,8 +8,6 @@ use borrow.Fn.Kinds.{ParamKind, ResultKind, Dens, res_t, Out, ended_of}
 use Rattle.words.proofs.bit as bit
 use Rattle.words.proofs.not_within as not-Within
 use Rattle.words.proofs.place_of_word as place-of-word
-use Rattle.words.proofs.past as past
-use Rattle.words.proofs.least as least
 use Rattle.words.proofs.put_bit as put-bit
 use Rattle.words.proofs.outside as outside
 use Rattle.words.proofs.place_of as place_of
@@ -21,6 +19,13 @@ use Rattle.words.proofs.part_in as part_in
 use Rattle.words.proofs.from_bytes as from_bytes
 use Rattle.words.proofs.to_bytes as to-bytes
 use Rattle.words.proofs.Mode.of as Mode-of
+use Rattle.words.proofs.refusal.Refusal.number as number
+use Rattle.words.proofs.list.RefSliceU16Words.count as count
+use Rattle.words.proofs.list.RefSliceU16Words.word as word
+use Rattle.words.proofs.list.RefSliceU16Words.part as part-of-words
+use Rattle.words.proofs.list.RefSliceU8Words.count as count-in-bytes
+use Rattle.words.proofs.list.RefSliceU8Words.word as word-in-bytes
+use Rattle.words.proofs.list.RefSliceU8Words.part as part-of-bytes
 use Rattle.words.proofs.Effect.new as new
 use Rattle.words.proofs.Effect.identity as identity
 use Rattle.words.proofs.Effect.paint as paint
@@ -40,6 +45,9 @@ OneReply n ps r Ensured =
 
 pub mode-of-one : OneReply 0 Mode-of.Kinds.ps Mode-of.Kinds.r Mode-of.Reads.Post
 mode-of-one κs a r o e e' p q = p ∙ sym q
+
+pub number-one : OneReply 0 number.Kinds.ps number.Kinds.r number.Reads.Post
+number-one κs a r o e e' p q = p ∙ sym q
 
 pub new-one : OneReply 0 new.Kinds.ps new.Kinds.r new.Reads.Post
 new-one κs a r o e e' p q = p ∙ sym q
@@ -73,12 +81,6 @@ not-within-one κs a r o e e' p q = p ∙ sym q
 
 pub place-of-word-one : OneReply 0 place-of-word.Kinds.ps place-of-word.Kinds.r place-of-word.Reads.Post
 place-of-word-one κs a r o e e' p q = p ∙ sym q
-
-pub least-one : OneReply 0 least.Kinds.ps least.Kinds.r least.Reads.Post
-least-one κs a r o e e' p q = p ∙ sym q
-
-pub past_one : OneReply 0 past.Kinds.ps past.Kinds.r past.Reads.Post
-past_one κs a r o e e' p q = p ∙ sym q
 
 pub put-bit-one : OneReply 0 put-bit.Kinds.ps put-bit.Kinds.r put-bit.Reads.Post
 put-bit-one κs a r o e e' p q = p ∙ sym q
@@ -120,3 +122,27 @@ pub to-bytes-one : (κs : Lfts 2) (a : Dens κs to-bytes.Kinds.ps) (r o : (res_t
     → to-bytes.Reads.Post κs a r e → to-bytes.Reads.Post κs a o e'
     → (r ≡ o) × (e.1.0.now ≡ e'.1.0.now)
 to-bytes-one κs a r o e e' p q = (p.0 ∙ sym q.0, p.1 ∙ sym q.1)
+
+-- ---- of the lists of words, in words and in bytes
+
+pub count-one : OneReply 1 count.Kinds.ps count.Kinds.r count.Reads.Post
+count-one κs a r o e e' p q = p ∙ sym q
+
+pub word-one : OneReply 1 word.Kinds.ps word.Kinds.r word.Reads.Post
+word-one κs a r o e e' p q = p ∙ sym q
+
+pub part-of-words-one : (κs : Lfts 1) (a : Dens κs part-of-words.Kinds.ps) (r o : (res_t part-of-words.Kinds.r κs).Denot)
+    (e e' : AtExit (ended_of 1 part-of-words.Kinds.ps part-of-words.Kinds.r) κs)
+    → part-of-words.Reads.Post κs a r e → part-of-words.Reads.Post κs a o e' → r.now ≡ o.now
+part-of-words-one κs a r o e e' p q = p.1 ∙ sym q.1
+
+pub count-in-bytes-one : OneReply 1 count-in-bytes.Kinds.ps count-in-bytes.Kinds.r count-in-bytes.Reads.Post
+count-in-bytes-one κs a r o e e' p q = p ∙ sym q
+
+pub word-in-bytes-one : OneReply 1 word-in-bytes.Kinds.ps word-in-bytes.Kinds.r word-in-bytes.Reads.Post
+word-in-bytes-one κs a r o e e' p q = p ∙ sym q
+
+pub part-of-bytes-one : (κs : Lfts 1) (a : Dens κs part-of-bytes.Kinds.ps) (r o : (res_t part-of-bytes.Kinds.r κs).Denot)
+    (e e' : AtExit (ended_of 1 part-of-bytes.Kinds.ps part-of-bytes.Kinds.r) κs)
+    → part-of-bytes.Reads.Post κs a r e → part-of-bytes.Reads.Post κs a o e' → r.now ≡ o.now
+part-of-bytes-one κs a r o e e' p q = p.1 ∙ sym q.1

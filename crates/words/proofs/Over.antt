@@ -30,6 +30,9 @@ unfolding over
 over-step n d f now before same becomes =
     ap (λ (q : List ℕ). set q n d) same ∙ ap (set (over n f before) n) becomes ∙ sym (ap (λ (k : ℕ). over k f before) (add-one n))
 
+-- so a loop that writes finds its turns by itself
+pub ruleset over_turn = (over-step)
+
 -- a word that was written
 last-or-before : (n : ℕ) (f : ℕ → ℕ) (p : List ℕ) (i : ℕ) (t : Bool) → eqb i n ≡ t → i ≤ n → suc n ≤ length p
     → (i < n → word (over n f p) i ≡ f i) → word (over (suc n) f p) i ≡ f i

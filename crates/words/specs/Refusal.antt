@@ -1,5 +1,64 @@
--- The order of refusals: the paper's "Numbers returned".
+-- The refusals, their numbers and their order: the paper's "Numbers returned".
 use Rattle.std.specs.Prelude.{ℕ, Bool, cond, List, [], ◌∷◌, eqb, ltb, ◌||◌}
+use Rattle.std.specs.declared.result.Result.{Result}
+use Rattle.std.specs.declared.result.Result.TheVariants.{Ok, Err}
+use Rattle.words.specs.declared.refusal.Refusal.{Refusal}
+use Rattle.words.specs.declared.refusal.Refusal.TheVariants.{OddBytes, FontTooShort, NotAStrike, FontCodes, BodyCount, FontSize}
+use Rattle.words.specs.declared.refusal.Refusal.TheVariants.{FontLength, Pointers, NoPicture, NoDummy, Panel, Strip, Start, LongLabel}
+use Rattle.words.specs.declared.refusal.Refusal.TheVariants.{Mode, LitDots, CuSize, CuCutShort, CuCodes, CuOrigin, CuSpacing}
+use Rattle.words.specs.declared.refusal.Refusal.TheVariants.{CuOffset, FontTooLarge, OutputTooShort}
+
+-- the number of each refusal
+abbrev pub number_of : Refusal → ℕ
+number_of OddBytes = 14
+number_of FontTooShort = 1
+number_of NotAStrike = 2
+number_of FontCodes = 3
+number_of BodyCount = 15
+number_of FontSize = 4
+number_of FontLength = 5
+number_of Pointers = 6
+number_of NoPicture = 16
+number_of NoDummy = 7
+number_of Panel = 8
+number_of Strip = 9
+number_of Start = 10
+number_of LongLabel = 11
+number_of Mode = 12
+number_of LitDots = 30
+number_of CuSize = 20
+number_of CuCutShort = 21
+number_of CuCodes = 22
+number_of CuOrigin = 23
+number_of CuSpacing = 24
+number_of CuOffset = 25
+number_of FontTooLarge = 26
+number_of OutputTooShort = 27
+
+-- all of them, in the table's order
+abbrev pub every_refusal : List Refusal
+every_refusal =
+    OddBytes ∷ FontTooShort ∷ NotAStrike ∷ FontCodes ∷ BodyCount ∷ FontSize ∷ FontLength ∷ Pointers ∷ NoPicture ∷ NoDummy
+    ∷ Panel ∷ Strip ∷ Start ∷ LongLabel ∷ Mode ∷ LitDots
+    ∷ CuSize ∷ CuCutShort ∷ CuCodes ∷ CuOrigin ∷ CuSpacing ∷ CuOffset ∷ FontTooLarge ∷ OutputTooShort ∷ []
+
+-- the one of these with that number; the last, for a number that is none's
+unfoldable pub numbered : ℕ → List Refusal → Refusal
+numbered number [] = OutputTooShort
+numbered number (refusal ∷ others) = cond (eqb (number_of refusal) number) refusal (numbered number others)
+
+-- the refusal of a number
+unfoldable pub refusal_of : ℕ → Refusal
+refusal_of number = numbered number every_refusal
+
+-- "0 means done": the number of what a call answers
+abbrev pub returned : {A : Type 0} → Result A Refusal → ℕ
+returned (Ok value) = 0
+returned (Err refusal) = number_of refusal
+
+-- what a call answers by its number: the value beside 0, and else the refusal of that number
+unfoldable pub answered : {A : Type 0} → ℕ → A → Result A Refusal
+answered number value = cond (eqb number 0) (Ok value) (Err (refusal_of number))
 
 -- "The order is the table's, top to bottom": the number beside the first test that holds. "0 means done."
 unfoldable pub first_of : List (Bool × ℕ) → ℕ

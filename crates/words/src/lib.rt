@@ -2,14 +2,20 @@
 // and kept in a sheet.
 #![tactic(auto)]
 
+mod list;
+mod refusal;
+
 ghost use Rattle.std.specs.Prelude.{◌≡◌, ◌+◌, ◌-◌, ◌*◌, ◌/◌, ◌%◌, min, length, take, drop};
 ghost use Rattle.words.specs.Word.{word, bit_of, put_bit, words_of, bytes_of, odd_bytes, over};
 ghost use Rattle.words.specs.Refusal.{not_within};
 ghost use Rattle.words.specs.Place.{outside, place_of, place_of_word};
 ghost use Rattle.words.specs.Effect.{effect, identity, paint_of, erase_of, invert_of, effect_of, mode_of, join_of, apply_to};
 
+pub use list::Words;
+pub use refusal::Refusal;
+
 // How the dots of a picture change the dots of the panel.
-#[derive(Clone, Copy)]
+#[derive(Clone, Copy, Debug, PartialEq, Eq)]
 pub enum Mode {
     Paint,
     Erase,
@@ -18,16 +24,15 @@ pub enum Mode {
 
 impl Mode {
     // 0 Paint, 1 Erase, 2 Invert. A number over 2 is refused by whoever is handed it, and counts as Invert here.
+    #[tactic(auto, unfolding(crate::specs::Effect::mode_of))]
     pub fn of(number: u32) -> Mode
         ensures { result ≡ mode_of number }
     {
-        if number == 0 {
-            return Mode::Paint;
+        match number {
+            0 => Mode::Paint,
+            1 => Mode::Erase,
+            _ => Mode::Invert,
         }
-        if number == 1 {
-            return Mode::Erase;
-        }
-        Mode::Invert
     }
 }
 
@@ -107,10 +112,7 @@ impl Effect {
 pub fn word_at(list: &[u16], i: usize) -> u16
     ensures { result ≡ word list.now i }
 {
-    if i < list.len() {
-        return list[i];
-    }
-    0
+    list.get(i).copied().unwrap_or(0)
 }
 
 // Bit j of a word, for j from 0, the most significant, to 15.
@@ -135,16 +137,6 @@ pub fn part(list: &[u16], from: usize, count: usize) -> &[u16]
         return &list[from..];
     }
     &list[from..from + count]
-}
-
-// How far one number lies past another; 0 where it does not.
-pub fn past(a: usize, b: usize) -> usize
-    ensures { result ≡ a - b }
-{
-    if a < b {
-        return 0;
-    }
-    a - b
 }
 
 // The word with bit j, for j from 0 to 15, set to the last bit of b.
@@ -199,13 +191,6 @@ pub fn place_of(x: i32) -> usize
         return 0;
     }
     (x + 2048) as usize
-}
-
-// The smaller of two numbers.
-pub fn least(a: usize, b: usize) -> usize
-    ensures { result ≡ min a b }
-{
-    if a < b { a } else { b }
 }
 
 // The bytes that so many words spell, and no more than there is room for.
@@ -268,29 +253,27 @@ fn byte_at(list: &[u16], i: usize) -> u8
 
 // Writes the words that bytes spell, the high byte first, over the first words of a list: as many as there are whole ones and as it has
 // room for. Answers how many.
+#[tactic(auto, using(crate::proofs::Over::over_turn), unfolding(crate::specs::Word::over))]
 pub fn from_bytes(bytes: &[u8], list: &mut [u16]) -> usize
     ensures value { result ≡ min (length bytes.now / 2) (length list.old) }
     ensures list { list.new ≡ over (min (length bytes.now / 2) (length list.old)) (word (words_of bytes.now)) list.old }
 {
-    let n = least(bytes.len() / 2, list.len());
-    let mut i = 0;
-    while i < n {
+    let n = (bytes.len() / 2).min(list.len());
+    for i in 0..n {
         list[i] = word_in(bytes, i);
-        i += 1;
     }
     n
 }
 
 // Writes the bytes that words spell, the high byte first, over the first bytes of a slice: as many as it has room for. Answers how many.
+#[tactic(auto, using(crate::proofs::Over::over_turn), unfolding(crate::specs::Word::over))]
 pub fn to_bytes(list: &[u16], bytes: &mut [u8]) -> usize
     ensures value { result ≡ min (2 * length list.now) (length bytes.old) }
     ensures bytes { bytes.new ≡ over (min (2 * length list.now) (length bytes.old)) (word (bytes_of list.now)) bytes.old }
 {
     let n = least_bytes(list.len(), bytes.len());
-    let mut i = 0;
-    while i < n {
+    for i in 0..n {
         bytes[i] = byte_at(list, i);
-        i += 1;
     }
     n
 }

@@ -1,6 +1,6 @@
 -- `convert::max_width` meets its contract: each turn takes one more spacing into account.
 -- Assumes nothing.
-use Prim.Native.Nat.{ℕ, ◌+◌, ◌-◌, ◌≤◌}
+use Prim.Native.Nat.{ℕ, ◌+◌}
 use mathlib.Core.Path.{◌≡◌}
 use mathlib.Core.Bool.{cond}
 use lib.Dec.{ltb}
@@ -10,7 +10,4 @@ use Rattle.convert.proofs.max_width.Given as goal
 
 abbrev pub invariant-loop-c : goal.invariant-loop-c
 invariant-loop-c l =
-    (l.c ≤ 256) × (l.most ≡ most_below l.c (λ (c : ℕ). cond (ltb 0 (word l.places c)) (word l.cu (word l.places c + 1)) 0))
-
-abbrev pub decreases-loop-c : goal.decreases-loop-c
-decreases-loop-c l = 256 - l.c
+    l.most ≡ most_below l.c (λ (c : ℕ). cond (ltb 0 (word l.places.table c)) (word l.cu (word l.places.table c + 1)) 0)

@@ -8,19 +8,19 @@ use lib.Dec.{ltb}
 use borrow.Author.Tests.{lt-ltb, le-ltb, ltb-true, ltb-false}
 use Rattle.counts.proofs.is_over.Goals as goal
 
-over-least : (most count : ℕ) → count ≤ 4294967295 → ltb (min 4294967295 most) count ≡ ltb most count
+over-least : (most count : ℕ) → count ≤ 4294967295 → ltb (min most 4294967295) count ≡ ltb most count
 over-least most count fits = by-test (ltb most count) refl
   where
-    by-test : (t : Bool) → ltb most count ≡ t → ltb (min 4294967295 most) count ≡ ltb most count
+    by-test : (t : Bool) → ltb most count ≡ t → ltb (min most 4294967295) count ≡ ltb most count
     by-test true over =
         let less = ltb-true most count over in
-        lt-ltb (min 4294967295 most) count (omega (arith, less)) ∙ sym over
+        lt-ltb (min most 4294967295) count (omega (arith, less)) ∙ sym over
     by-test false under =
         let more = ltb-false most count under in
-        le-ltb (min 4294967295 most) count (omega (arith, more)) ∙ sym under
+        le-ltb (min most 4294967295) count (omega (arith, more)) ∙ sym under
 
 pub overflow_cast-result : goal.overflow_cast-result
-overflow_cast-result c = omega (arith, c.least.ensures)
+overflow_cast-result c = omega (arith, c.min.ensures)
 
 pub returns : goal.returns
-returns c = ap (λ (n : ℕ). ltb n c.args.count) c.least.ensures ∙ over-least c.args.most c.args.count (omega (arith, c.ranges.count))
+returns c = ap (λ (n : ℕ). ltb n c.args.count) c.min.ensures ∙ over-least c.args.most c.args.count (omega (arith, c.ranges.count))

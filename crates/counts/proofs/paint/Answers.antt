@@ -1,35 +1,25 @@
--- `counts::paint` meets its contract: the number of a refused font, or what painting with its view answers.
+-- `counts::paint` meets its contract: the answer as a reply and the counts beside it.
 -- Assumes nothing.
-use mathlib.Core.Path.{sym, ap, ◌∙◌}
-use mathlib.Core.List.{[], ◌∷◌}
-use lib.ListN.{length}
-use Rattle.fonts.specs.Strike.{view_of}
-use Rattle.fonts.specs.Reading.{font_number}
-use Rattle.fonts.proofs.Readings.{read-refused, read-accepted}
-use Rattle.paint.specs.Label.{call_of}
-use Rattle.paint.proofs.Replies.{number-refused}
+use Prim.Native.Nat.{ℕ}
+use mathlib.Core.Path.{◌≡◌, refl, ap, ◌∙◌}
+use mathlib.Core.List.{List}
+use Rattle.std.specs.declared.result.Result.{Result}
+use Rattle.std.specs.declared.result.Result.TheVariants.{Ok, Err}
+use Rattle.words.specs.declared.refusal.Refusal.{Refusal}
+use Rattle.words.specs.Refusal.{returned}
+use Rattle.paint.specs.declared.Finish.{Finish}
 use Rattle.paint.proofs.Telling.{tells}
 use Rattle.counts.specs.declared.Painted.{Painted}
-use Rattle.counts.proofs.Painting.{refused-before}
+use Rattle.counts.specs.Calls.{painted_by}
 use Rattle.counts.proofs.paint.Goals as goal
 
-pub paint_label-requires : goal.paint_label-requires
-paint_label-requires c =
-    let what = read-accepted (font_number c.args.font.now) (view_of c.args.font.now) _ (sym c.read.ensures.value ∙ c.in-Accepted.is) in
-    (what.1, what.0)
+same-number : (answer : Result (Finish × List ℕ) Refusal) (given : List ℕ) → returned (painted_by answer given).reply ≡ returned answer
+same-number (Ok done) given = refl
+same-number (Err refusal) given = refl
 
-pub returns-in-Refused : goal.returns-in-Refused
-returns-in-Refused c =
-    let a = c.args in
-    let font = a.font.now in
-    let call = call_of font a.l a.text.now in
-    let what = read-refused (font_number font) (view_of font) _ (sym c.read.ensures.value ∙ c.in-Refused.is) in
-    let number = number-refused call _ what.0 what.1 a.s (length a.panel.now ∷ []) in
-    let refused = refused-before a.s call a.panel.now a.counts _ number what.1 in
-    let answer = c.refused.ensures ∙ refused.0 in
-    record { value = answer; panel = refused.1; numbers = tells _ _ _ (ap (λ (p : Painted). p.reply) answer) }
-
-pub returns-in-Accepted : goal.returns-in-Accepted
-returns-in-Accepted c =
-    let painted = c.paint_label.ensures in
-    record { value = painted.value; panel = painted.panel; numbers = tells _ _ _ (ap (λ (p : Painted). p.reply) painted.value) }
+pub returns-clause-numbers : goal.returns-clause-numbers
+returns-clause-numbers c =
+    let reply = ap (λ (p : Painted). p.reply) (c.of.ensures ∙ c.paint_counted.ensures.value) in
+    let told = ap (λ (p : Painted). returned p.reply) c.of.ensures ∙ same-number c.paint_counted.result c.args.counts
+    ∙ c.paint_counted.ensures.number in
+    tells _ _ _ reply told

@@ -1,7 +1,7 @@
 -- `counts::settle` meets its contract: the loop moves the counts one by one until one leaves what it may be, and one that does not is at
 -- most W × H.
 -- Assumes nothing.
-use Prim.Native.Nat.{ℕ, ◌+◌, ◌-◌, ◌≤◌}
+use Prim.Native.Nat.{ℕ, ◌+◌, ◌-◌}
 use mathlib.Core.Path.{◌≡◌}
 use mathlib.Core.Bool.{false}
 use Rattle.words.specs.Word.{word, over}
@@ -11,9 +11,5 @@ use Rattle.counts.proofs.settle.Given as goal
 
 abbrev pub invariant-loop-k : goal.invariant-loop-k
 invariant-loop-k l =
-    (l.k ≤ 32)
-    × (l.new ≡ over l.k (λ (k : ℕ). word l.counts k + word l.left k - word l.lit k) l.counts)
+    (l.new ≡ over l.k (λ (k : ℕ). word l.counts k + word l.left k - word l.lit k) l.counts)
     × (some_below l.k (λ (k : ℕ). leaves l.most (word l.counts k) (word l.left k) (word l.lit k)) ≡ false)
-
-abbrev pub decreases-loop-k : goal.decreases-loop-k
-decreases-loop-k l = 32 - l.k

@@ -1,33 +1,30 @@
-use Prim.Native.Nat.{ℕ}
-use mathlib.Core.Path.{◌≡◌, refl, sym, ap, ◌∙◌}
-use native.Mathlib.Omega.{arith}
-use lib.Dec.{ltb}
+-- `counts::some_over` meets its contract: it looks for a count over the most, which is the area of every strip.
+-- Assumes nothing.
+use Rattle.std.proofs.Common.{ℕ, ◌≡◌, ◌<◌, Bool, true, false, ltb, List, length, MatchBool, rules, tests, arith}
+use mathlib.Core.Path.{sym, ap, ◌∙◌}
+use Rattle.std.specs.List.{HoldsAt, AllWithin}
+use Rattle.std.proofs.lemmas.Iterator.{cases_from_any, YieldsList-from_slice}
 use Rattle.words.specs.Word.{word}
 use Rattle.words.specs.Search.{some_below}
-use Rattle.words.proofs.Search.{none_more, some-here}
-use Rattle.counts.specs.Lit.{some_over}
+use Rattle.words.proofs.Search.{none_passes, some-here}
 use Rattle.counts.proofs.Moves.{over-is}
 use Rattle.counts.proofs.some_over.Goals as goal
-use Rattle.counts.proofs.some_over.Goals.{After-most_lit-most}
 
--- with the most that the code has found, the loop's test is the definition's
-told : (c : After-most_lit-most) → some_below 32 (λ k. ltb c.most_lit-most.result (word c.args.counts k)) ≡ some_over c.args.s c.args.counts
-told c =
-    ap (λ (most : ℕ). some_below 32 (λ k. ltb most (word c.args.counts k))) c.most_lit-most.ensures ∙ over-is c.args.s c.args.counts
-
-pub loop-k-init : goal.loop-k-init
-unfolding some_below
-loop-k-init c = (omega arith, refl)
-
-pub returns-then-is_over : goal.returns-then-is_over
-returns-then-is_over c =
-    sym (some-here _ 32 c.loop-k.k (omega arith) (sym c.is_over.ensures ∙ c.if-is_over.true))
-    ∙ told (goal.at.returns-then-is_over c).After-most_lit-most
-
-pub loop-k-preserved : goal.loop-k-preserved
-loop-k-preserved c = (omega arith, none_more _ c.loop-k.k c.loop-k.invariant.1 (sym c.is_over.ensures ∙ c.if-is_over.false))
+module _ (most : ℕ) (counts : List ℕ) (long : length counts ≡ 32) where
+  -- what a search finds is that some of them is over it
+  found : (r : Bool)
+      → MatchBool r ((k : ℕ) × (k < length counts) × HoldsAt (λ n. ltb most n ≡ true) counts k)
+      (AllWithin (λ n. ltb most n ≡ false) counts 0 (length counts))
+      → r ≡ some_below 32 (λ k. ltb most (word counts k))
+  found true h = let less = h.1 in sym (some-here _ 32 h.0 (omega (arith, less, long)) (h.2 0))
+  found false h = sym (none_passes _ 32 (λ k less. h k 0 (omega arith) (omega (arith, less, long))))
 
 pub returns : goal.returns
 returns c =
-    let e : c.loop-k.k ≡ 32 = omega arith in
-    sym (rw e at c.loop-k.invariant.1) ∙ told (goal.at.returns c).After-most_lit-most
+    let a = c.args in
+    let most = c.most_lit-most.result in
+    let ran = cases_from_any _ _ _ (λ n. ltb most n ≡ true) (λ n. ltb most n ≡ false) c.any.ensures.ran
+    (YieldsList-from_slice a.counts (search rules)) (λ x q k. search (rules, tests)) (λ x q k. search (rules, tests)) in
+    found most a.counts (search rules) _ ran
+    ∙ ap (λ (m : ℕ). some_below 32 (λ k. ltb m (word a.counts k))) c.most_lit-most.ensures
+    ∙ over-is a.s a.counts

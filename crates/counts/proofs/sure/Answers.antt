@@ -15,7 +15,7 @@ pub returns-then-t : goal.returns-then-t
 returns-then-t c = λ no. absurd (true≢false (sym no))
 
 -- the dots of the rows
-room : (c : Else-t) → c.args.s.width * c.args.rows.count ≤ 1099511627520
+room : (c : Else-t) → c.args.s.width * c.args.t.rows.count ≤ 1099511627520
 room c = mul-le-mul {n₂ = 4294967295} {m₂ = 256} (omega arith) (omega arith)
 
 pub overflow_mul-room : goal.overflow_mul-room
@@ -32,5 +32,5 @@ overflow_add-result-2 c =
 pub returns : goal.returns
 returns c =
     λ yes more few.
-    let within : c.args.t.held + c.args.s.width * c.args.rows.count ≤ c.most_lit.result + c.args.t.lit = leb-true _ _ yes in
+    let within : c.args.t.held + c.args.s.width * c.args.t.rows.count ≤ c.most_lit.result + c.args.t.lit = leb-true _ _ yes in
     stays (c.args.s.width * c.args.s.rows) c.args.t.held more c.args.t.lit (omega arith) (omega arith)

@@ -1,11 +1,11 @@
 -- `cu2ks::converted` converts the words that the bytes spell.
 use Prim.Native.Nat.{ℕ, ◌/◌, ◌≤◌}
-use mathlib.Core.Path.{sym, ap, ◌∙◌}
+use mathlib.Core.Path.{sym, ap, subst, ◌∙◌}
 use mathlib.Core.List.{List}
 use native.Mathlib.Omega.{arith}
 use lib.ListN.{length, replicate}
 use lib.Seq.{length-take-le}
-use Rattle.convert.specs.Conversion.{conversion_of, output_after}
+use Rattle.convert.specs.Conversion.{conversion_of, output_after, Tells}
 use Rattle.cu2ks.proofs.Answering.{spelt}
 use Rattle.cu2ks.proofs.converted.Goals as goal
 
@@ -22,4 +22,5 @@ returns c =
       value = c.convert.ensures.value ∙ ap (λ (ws : List ℕ). conversion_of ws (length c.args.out.now)) words;
       out =
           c.convert.ensures.out ∙ ap (λ (ws : List ℕ). output_after ws c.args.out.now) words;
+      numbers = subst (λ (ws : List ℕ). Tells c.convert.result ws (length c.args.out.now)) words c.convert.ensures.numbers;
     }

@@ -6,12 +6,12 @@ use Rattle.fontbytes.proofs.entry_for_step.Goals as goal
 
 pub returns-then-kerned : goal.returns-then-kerned
 unfolding for_step
-returns-then-kerned c =
+returns-then-kerned g c =
     let kind = sym c.kerned.ensures ∙ c.if-kerned.true in
     rw kind (cc)
 
 pub returns : goal.returns
 unfolding for_step
-returns c =
+returns g c =
     let kind = sym c.kerned.ensures ∙ c.if-kerned.false in
     rw kind (cc)

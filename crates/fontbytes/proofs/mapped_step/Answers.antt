@@ -3,7 +3,6 @@
 use Prim.Native.Nat.{ℕ}
 use mathlib.Core.Path.{sym, ap, ap₂, ◌∙◌}
 use lib.Dec.{eqb}
-use Rattle.words.specs.Word.{words_of}
 use Rattle.fonts.specs.declared.Strike.{Strike}
 use Rattle.fonts.specs.Strike.{strike_by}
 use Rattle.fonts.specs.Entry.{advance_of}
@@ -13,10 +12,10 @@ use Rattle.fontbytes.proofs.mapped_step.Goals as goal
 
 pub returns : goal.returns
 unfolding glyph_by picture_of
-returns c =
+returns g c =
     let a = c.args in
     let h = a.v.header in
-    let words = words_of a.font.now in
+    let words = g.F.Words.as_words a.font in
     let strikes : ℕ → Strike = strike_by a.v a.bitmaps.now words in
     let at = c.mapped_place-k.ensures in
     let moves =

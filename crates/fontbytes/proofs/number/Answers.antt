@@ -1,11 +1,13 @@
--- `fontbytes::number` meets its contract: the number of what reading answers.
+-- `fontbytes::number` meets its contract: 14, or the number of what reading the words answers.
 -- Assumes nothing.
-use mathlib.Core.Path.{sym, ap, ◌∙◌}
-use Rattle.fonts.specs.Reading.{reading_number}
+use mathlib.Core.Path.{sym, ◌∙◌}
+use Rattle.fontbytes.specs.File.{file_number}
 use Rattle.fontbytes.proofs.number.Goals as goal
 
-pub returns-in-Refused : goal.returns-in-Refused
-returns-in-Refused c = sym (ap reading_number c.in-Refused.is) ∙ c.read.ensures.number
+pub returns-then-odd_bytes : goal.returns-then-odd_bytes
+unfolding file_number
+returns-then-odd_bytes c = rw (sym c.odd_bytes.ensures ∙ c.if-odd_bytes.true) c.number.ensures
 
-pub returns-in-Accepted : goal.returns-in-Accepted
-returns-in-Accepted c = sym (ap reading_number c.in-Accepted.is) ∙ c.read.ensures.number
+pub returns : goal.returns
+unfolding file_number
+returns c = rw (sym c.odd_bytes.ensures ∙ c.if-odd_bytes.false) c.number-2.ensures

@@ -6,4 +6,4 @@ use Rattle.fonts.proofs.bitmaps.Goals as goal
 
 pub returns : goal.returns
 unfolding bitmaps_of table
-returns c = c.find_bitmaps.ensures
+returns g c = c.find_bitmaps.ensures

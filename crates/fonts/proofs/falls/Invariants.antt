@@ -4,13 +4,12 @@
 use Prim.Native.Nat.{◌-◌, ◌≤◌}
 use mathlib.Core.Path.{◌≡◌}
 use mathlib.Core.Bool.{◌||◌}
-use lib.ListN.{length, get_or, drop}
+use lib.ListN.{drop}
+use Rattle.words.specs.Word.{word}
 use Rattle.fonts.specs.Reading.{falls_from}
 use Rattle.fonts.proofs.falls.Given as goal
 
 abbrev pub invariant-loop-i : goal.invariant-loop-i
-invariant-loop-i l =
-    (1 ≤ l.i) × (falls_from 0 l.pointers ≡ (l.fallen || falls_from (get_or l.pointers (l.i - 1) 0) (drop l.i l.pointers)))
-
-abbrev pub decreases-loop-i : goal.decreases-loop-i
-decreases-loop-i l = length l.pointers - l.i
+invariant-loop-i g l =
+    let pointers = g.F.Words.as_words l.pointers in
+    (1 ≤ l.i) × (l.before ≡ word pointers (l.i - 1)) × (falls_from 0 pointers ≡ (l.fallen || falls_from l.before (drop l.i pointers)))

@@ -10,13 +10,13 @@ use Rattle.fonts.proofs.lost.Goals as goal
 
 pub returns-then-name-pointers : goal.returns-then-name-pointers
 unfolding lost
-returns-then-name-pointers c =
+returns-then-name-pointers g c =
     let a = c.args in
     rw (lt-leb a.pointers (a.name.code + 1) c.if-name-pointers.true, and-false _)
 
 pub returns : goal.returns
 unfolding lost
-returns c =
+returns g c =
     let a = c.args in
     rw (le-leb a.pointers (a.name.code + 1) c.if-name-pointers.false, and-true _)
-    (ap not (c.marked.ensures ∙ ap (marked a.h a.name.missing) c.word_at.ensures))
+    (ap not (c.marked.ensures ∙ ap (marked a.h a.name.missing) c.word.ensures))

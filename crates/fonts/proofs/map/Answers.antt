@@ -5,4 +5,7 @@ use Rattle.fonts.proofs.map.Goals as goal
 
 pub returns : goal.returns
 unfolding map_of
-returns c = cc
+returns g c =
+    let from = c.map_at.ensures.value in
+    let entries = c.codes.ensures in
+    record { words = rw (← from, ← entries) c.part.ensures.words; held = rw (← from, ← entries) c.part.ensures.held }

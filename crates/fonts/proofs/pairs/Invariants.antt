@@ -1,15 +1,13 @@
 -- `fonts::pairs` meets its contract. The invariant: this body begins here, and the table holds what belongs to those before it.
 -- Assumes nothing.
-use Prim.Native.Nat.{ℕ, ◌+◌, ◌-◌, ◌*◌, ◌≤◌}
+use Prim.Native.Nat.{ℕ, ◌+◌, ◌*◌, ◌≤◌}
 use mathlib.Core.Path.{◌≡◌}
 use Rattle.words.specs.Word.{over}
 use Rattle.fonts.specs.Strike.{body_of, start_from, pointer_count}
 use Rattle.fonts.proofs.pairs.Given as goal
 
 abbrev pub invariant-loop-k : goal.invariant-loop-k
-invariant-loop-k l =
-    (l.k ≤ l.count) × (l.at ≤ 65548 + 65535 * l.k) × (l.at ≡ start_from l.initial.at l.font l.k) ×
-    (l.table ≡ over l.k (λ (k : ℕ). pointer_count (body_of l.font (start_from l.initial.at l.font k))) l.initial.table)
-
-abbrev pub decreases-loop-k : goal.decreases-loop-k
-decreases-loop-k l = l.count - l.k
+invariant-loop-k g l =
+    let ws = g.F.Words.as_words l.font in
+    (l.at ≤ 65548 + 65535 * l.k) × (l.at ≡ start_from l.initial.at ws l.k) ×
+    (l.table ≡ over l.k (λ (k : ℕ). pointer_count (body_of ws (start_from l.initial.at ws k))) l.initial.table)

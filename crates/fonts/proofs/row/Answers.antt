@@ -13,20 +13,22 @@ use Rattle.fonts.specs.Face.{row_of}
 use Rattle.fonts.specs.Reading.{number_by, font_number, accepted}
 use Rattle.fonts.specs.Strike.{view_of, height, strike_in, strike_by, bitmaps_of}
 use Rattle.fonts.proofs.Dots.{row-start}
+use Rattle.fonts.proofs.Readings.{told-refused, told-accepted}
+use Rattle.words.specs.Refusal.{returned}
 use Rattle.fonts.proofs.Accepted.{strike-accepted}
 use Rattle.fonts.proofs.row.Goals as goal
-use Rattle.fonts.proofs.row.Goals.{After-height, After-number_by}
+use Rattle.fonts.proofs.row.Goals.{After-height, After-check}
 
-number_is : (c : After-number_by) → c.number_by.result ≡ font_number c.args.font.now
+number_is : (c : After-check) → returned c.check.result ≡ font_number c.args.font.now
 unfolding font_number view_of
-number_is c = c.number_by.ensures ∙ ap (λ (v : View). number_by v.header c.args.font.now) c.of-v.ensures
+number_is c = c.check.ensures ∙ ap (λ (v : View). number_by v.header c.args.font.now) c.of-v.ensures
 
-number_is-after-height : (c : After-height) → c.number_by.result ≡ font_number c.args.font.now
+number_is-after-height : (c : After-height) → returned c.check.result ≡ font_number c.args.font.now
 unfolding font_number view_of
-number_is-after-height c = c.number_by.ensures ∙ ap (λ (v : View). number_by v.header c.args.font.now) c.of-v.ensures
+number_is-after-height c = c.check.ensures ∙ ap (λ (v : View). number_by v.header c.args.font.now) c.of-v.ensures
 
 good-number : (c : After-height) → font_number c.args.font.now ≡ 0
-good-number c = sym (number_is-after-height c) ∙ c.if-number_by-ne0.false
+good-number c = sym (number_is-after-height c) ∙ told-accepted c.check.result (sym c.is_err.ensures.value ∙ c.if-is_err.false)
 
 strike-is : (c : After-height) → c.strike-s.result ≡ strike_in (view_of c.args.font.now) c.args.font.now c.args.body
 strike-is c =
@@ -39,11 +41,12 @@ strike-is c =
 height-is : (c : After-height) → c.height.result ≡ height (strike_in (view_of c.args.font.now) c.args.font.now c.args.body).body
 height-is c = c.height.ensures.value ∙ ap (λ (s : Strike). height s.body) (strike-is c)
 
-pub returns-then-number_by-ne0 : goal.returns-then-number_by-ne0
+pub returns-then-is_err : goal.returns-then-is_err
 unfolding row_of accepted
-returns-then-number_by-ne0 c =
-    let number = sym (number_is (goal.at.returns-then-number_by-ne0 c).After-number_by) in
-    rw (ne_eqb (font_number c.args.font.now) 0 (λ e. c.if-number_by-ne0.true (sym number ∙ e)))
+returns-then-is_err c =
+    let number = number_is (goal.at.returns-then-is_err c).After-check in
+    let refused = told-refused c.check.result (sym c.is_err.ensures.value ∙ c.if-is_err.true) in
+    rw (ne_eqb (font_number c.args.font.now) 0 (λ e. refused (number ∙ e)))
 
 pub returns-then-height-r : goal.returns-then-height-r
 unfolding row_of accepted

@@ -1,6 +1,6 @@
 -- `fonts::rows_in_all` meets its contract. The invariant: this body begins here, and none up to it has more rows.
 -- Assumes nothing.
-use Prim.Native.Nat.{ℕ, suc, ◌+◌, ◌-◌, ◌*◌, ◌≤◌, max}
+use Prim.Native.Nat.{ℕ, suc, ◌+◌, ◌*◌, ◌≤◌, max}
 use mathlib.Core.Path.{◌≡◌}
 use mathlib.Core.List.{List}
 use Rattle.words.specs.Search.{most_below}
@@ -14,9 +14,6 @@ others first ws j = body_of ws (start_from first ws (suc j))
 
 abbrev pub invariant-loop-k : goal.invariant-loop-k
 invariant-loop-k l =
-    (l.k ≤ l.count - 1) × (l.at ≤ 65548 + 65535 * l.k) × (l.at ≡ start_from l.initial.at l.font l.k)
+    (l.at ≤ 65548 + 65535 * l.k) × (l.at ≡ start_from l.initial.at l.font l.k)
     × (l.above ≡ max l.initial.above (most_below l.k (λ (j : ℕ). (others l.initial.at l.font j).ascent)))
     × (l.below ≡ max l.initial.below (most_below l.k (λ (j : ℕ). (others l.initial.at l.font j).descent)))
-
-abbrev pub decreases-loop-k : goal.decreases-loop-k
-decreases-loop-k l = l.count - l.k

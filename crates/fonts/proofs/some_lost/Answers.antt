@@ -13,54 +13,54 @@ use Rattle.fonts.specs.Reading.{pairs_in, lost, lost_at}
 use Rattle.fonts.proofs.Tabled.{pairs-at}
 use Rattle.fonts.proofs.Mapped.{name-mapped}
 use Rattle.fonts.proofs.Naming.{whole-map}
+use Rattle.fonts.proofs.some_lost.Given.{Over}
 use Rattle.fonts.proofs.some_lost.Goals as goal
 use Rattle.fonts.proofs.some_lost.Goals.{After-lost, At-loop-k}
 
-entries : (b : At-loop-k) → length b.map-map.result.now ≡ codes b.args.h + 1
-entries b = ap length b.map-map.ensures ∙ whole-map b.args.h b.args.font.now b.requires.0 b.requires.1
+entries : (g : Over) (b : At-loop-k g) → b.count-k-end.result ≡ codes b.args.h + 1
+entries g b =
+    b.count-k-end.ensures
+    ∙ ap length b.map-map.ensures.words
+    ∙ whole-map b.args.h (g.F.Words.as_words b.args.font) b.requires.0 b.requires.1
 
-name-is : (seen : After-lost) → seen.of-name.result ≡ name_in seen.args.h seen.args.font.now seen.loop-k.k
-name-is seen =
-    seen.of-name.ensures.value
-    ∙ ap (λ (map : List ℕ). name_of (word map seen.loop-k.k)) seen.map-map.ensures
-    ∙ sym (name-mapped seen.args.h (λ n. no_strike) seen.args.font.now seen.requires.0 seen.loop-k.k)
+module _ (g : Over) (seen : After-lost g) where
+  name-is : seen.of-name.result ≡ name_in seen.args.h (g.F.Words.as_words seen.args.font) seen.loop-k.k
+  name-is =
+      seen.of-name.ensures.value
+      ∙ ap name_of (seen.word.ensures ∙ ap (λ (map : List ℕ). word map seen.loop-k.k) seen.map-map.ensures.words)
+      ∙ sym (name-mapped seen.args.h (λ n. no_strike) (g.F.Words.as_words seen.args.font) seen.requires.0 seen.loop-k.k)
 
-width_is : (seen : After-lost) → word seen.widths-widths.result.now seen.loop-k.k
-    ≡ word (widths_of seen.args.h seen.args.font.now) seen.loop-k.k
-width_is seen = ap (λ (widths : List ℕ). word widths seen.loop-k.k) seen.widths-widths.ensures
+  width_is : word (g.F.Words.as_words seen.widths-widths.result) seen.loop-k.k
+      ≡ word (widths_of seen.args.h (g.F.Words.as_words seen.args.font)) seen.loop-k.k
+  width_is = ap (λ (widths : List ℕ). word widths seen.loop-k.k) seen.widths-widths.ensures.words
 
-pairs-are : (seen : After-lost) → word seen.pairs-pairs.result seen.of-name.result.body
-    ≡ pairs_in seen.args.h seen.args.font.now (name_in seen.args.h seen.args.font.now seen.loop-k.k).body
-pairs-are seen =
-    ap (λ (table : List ℕ). word table seen.of-name.result.body) seen.pairs-pairs.ensures
-    ∙ pairs-at seen.args.h seen.args.font.now seen.of-name.result.body (omega (arith, seen.of-name.ensures.small.0))
-    ∙ ap (λ (name : Name). pairs_in seen.args.h seen.args.font.now name.body) (name-is seen)
+  pairs-are : word seen.pairs-pairs.result seen.of-name.result.body
+      ≡ pairs_in seen.args.h (g.F.Words.as_words seen.args.font)
+      (name_in seen.args.h (g.F.Words.as_words seen.args.font) seen.loop-k.k).body
+  pairs-are =
+      ap (λ (table : List ℕ). word table seen.of-name.result.body) seen.pairs-pairs.ensures
+      ∙ pairs-at seen.args.h (g.F.Words.as_words seen.args.font) seen.of-name.result.body (omega (arith, seen.of-name.ensures.small.0))
+      ∙ ap (λ (name : Name). pairs_in seen.args.h (g.F.Words.as_words seen.args.font) name.body) name-is
 
-lost-is : (seen : After-lost) → lost_at seen.args.h seen.args.font.now seen.loop-k.k ≡ seen.lost.result
-unfolding lost_at
-lost-is seen =
-    sym
-    (seen.lost.ensures
-    ∙ (λ i. lost seen.args.h ((name-is seen) i) ((width_is seen) i) ((pairs-are seen) i)))
+  lost-is : lost_at seen.args.h (g.F.Words.as_words seen.args.font) seen.loop-k.k ≡ seen.lost.result
+  unfolding lost_at
+  lost-is = sym (seen.lost.ensures ∙ (λ i. lost seen.args.h (name-is i) (width_is i) (pairs-are i)))
 
 pub loop-k-init : goal.loop-k-init
 unfolding some_below
-loop-k-init c = (omega arith, refl)
+loop-k-init g c = refl
 
 pub returns-then-lost : goal.returns-then-lost
-returns-then-lost c =
+returns-then-lost g c =
     sym (some-here _ (codes c.args.h + 1) c.loop-k.k
-    (omega (arith, entries (goal.at.returns-then-lost c).At-loop-k, c.loop-k-test.true))
-    (lost-is (goal.at.returns-then-lost c).After-lost ∙ c.if-lost.true))
+    (omega (arith, entries g (goal.at.returns-then-lost g c).At-loop-k, c.loop-k-test.true))
+    (lost-is g (goal.at.returns-then-lost g c).After-lost ∙ c.if-lost.true))
 
 pub loop-k-preserved : goal.loop-k-preserved
-loop-k-preserved c = (
-  omega arith,
-  none_more _ c.loop-k.k c.loop-k.invariant.1
-      (lost-is (goal.at.loop-k-preserved c).After-lost ∙ c.if-lost.false),
-)
+loop-k-preserved g c =
+    none_more _ c.loop-k.k c.loop-k.invariant (lost-is g (goal.at.loop-k-preserved g c).After-lost ∙ c.if-lost.false)
 
 pub returns : goal.returns
-returns c =
-    let e : c.loop-k.k ≡ codes c.args.h + 1 = omega (arith, entries (goal.at.returns c).At-loop-k) in
-    sym (rw e at c.loop-k.invariant.1)
+returns g c =
+    let e : c.loop-k.k ≡ codes c.args.h + 1 = omega (arith, entries g (goal.at.returns g c).At-loop-k) in
+    sym (rw e at c.loop-k.invariant)

@@ -1,15 +1,10 @@
 -- `fonts::some_lost` meets its contract. The invariant: none of the entries before this one is lost.
 -- Assumes nothing.
-use Prim.Native.Nat.{◌-◌, ◌≤◌}
 use mathlib.Core.Path.{◌≡◌}
 use mathlib.Core.Bool.{false}
-use lib.ListN.{length}
 use Rattle.words.specs.Search.{some_below}
 use Rattle.fonts.specs.Reading.{lost_at}
 use Rattle.fonts.proofs.some_lost.Given as goal
 
 abbrev pub invariant-loop-k : goal.invariant-loop-k
-invariant-loop-k l = (l.k ≤ length l.map) × (some_below l.k (lost_at l.h l.font) ≡ false)
-
-abbrev pub decreases-loop-k : goal.decreases-loop-k
-decreases-loop-k l = length l.map - l.k
+invariant-loop-k g l = some_below l.k (lost_at l.fn.h (g.F.Words.as_words l.fn.font)) ≡ false

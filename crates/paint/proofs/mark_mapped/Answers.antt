@@ -1,126 +1,75 @@
-use Prim.Native.Nat.{◌<◌, ◌≤◌}
-use mathlib.Core.Path.{◌≡◌, refl, sym, ap, ◌∙◌}
+use Prim.Native.Nat.{◌≤◌}
+use mathlib.Core.Path.{◌≡◌, ap, ◌∙◌}
 use mathlib.Core.Bool.{true}
 use native.Mathlib.Omega.{arith}
 use lib.ListN.{length, get_or}
 use Rattle.words.specs.Word.{table}
-use Rattle.words.proofs.Clearing.{whole}
-use Rattle.fonts.specs.declared.Glyph.{Glyph}
 use Rattle.fonts.specs.Strike.{bitmaps_of}
-use Rattle.fonts.specs.Face.{face_from, step_of}
-use Rattle.paint.specs.Pen.{pen_after, steps_of, erasing, stroke_words, Near, Drawable}
+use Rattle.fonts.specs.Face.{face_from}
+use Rattle.paint.specs.Pen.{pen_after, stroke_words, Near, Drawable}
 use Rattle.paint.proofs.Accepted.{same-room}
-use Rattle.paint.proofs.Along.{along-turn, along-done, gone-nowhere, gone-on, gone-near}
+use Rattle.paint.proofs.Along.{gone-near}
 use Rattle.paint.proofs.Labels.{named-glyph, glyph-behind}
-use Rattle.paint.proofs.Labels.{pictured, pictured-length, drawn-turn, drawn-done}
-use Rattle.paint.proofs.Settling.{kept-if, kept-length, kept-erased, kept-stays}
+use Rattle.paint.proofs.Texts.{begun, so-far, last-is, keep-is, flip-is}
+use Rattle.paint.proofs.mark_mapped.Given.{Over}
 use Rattle.paint.proofs.mark_mapped.Goals as goal
-use Rattle.paint.proofs.mark_mapped.Goals.{After-after-pen, After-mark_named, After-named-g, At-loop-i}
+use Rattle.paint.proofs.mark_mapped.Goals.{After-named-g, At-loop-byte}
 
-near : (b : At-loop-i) → Near b.loop-i.pen
-near b =
-    gone-near _ b.loop-i.pen b.loop-i.i (length b.args.text.now) b.requires.starting.0 b.requires.text_len_bound b.loop-i.invariant.0
-    b.loop-i.invariant.8
+near : (g : Over) (b : At-loop-byte g) → b.loop-byte.byte-index ≤ length b.args.text.now → Near b.loop-byte.pen
+near g b here =
+    gone-near _ b.loop-byte.pen b.loop-byte.byte-index (length b.args.text.now) b.requires.starting.0 b.requires.short here
+    b.loop-byte.invariant.gone
 
 -- what can be drawn on when the call begins can be drawn on now
-drawable : (b : At-loop-i) → Drawable b.args.k (length b.loop-i.flip)
-drawable b = same-room b.args.k _ (length b.loop-i.flip) b.loop-i.invariant.1 b.requires.drawable
+drawable : (g : Over) (b : At-loop-byte g) → Drawable b.args.k (length b.loop-byte.flip)
+drawable g b = same-room b.args.k _ (length b.loop-byte.flip) b.loop-byte.auto.flip b.requires.drawable
 
-keep-room : (b : At-loop-i) → b.args.settles ≡ true → stroke_words b.args.k ≤ length b.loop-i.keep
-keep-room b sure = rw b.loop-i.invariant.3 (b.requires.k_in_bounds sure)
+keep-room : (g : Over) (b : At-loop-byte g) → g.M.Marking.settles ≡ true → stroke_words b.args.k ≤ length b.loop-byte.keep
+keep-room g b settles = rw b.loop-byte.auto.keep (b.requires.settling settles)
 
-less : (shown : After-named-g) → shown.loop-i.i < length shown.args.text.now
-less shown = shown.loop-i-test.true
-
-glyph : (shown : After-named-g) → shown.named-g.result
-    ≡ (face_from shown.args.v shown.args.font.now).glyph (get_or shown.args.text.now shown.loop-i.i 0)
+glyph : (g : Over) (shown : After-named-g g) → shown.named-g.result
+    ≡ (face_from shown.args.v shown.args.font.now).glyph (get_or shown.args.text.now shown.loop-byte.byte-index 0)
 unfolding bitmaps_of table
-glyph shown =
+glyph g shown =
     named-glyph shown.args.v shown.args.font.now _ _ _ _ _ shown.requires.starting.1 shown.named-g.ensures
     shown.of-n.ensures shown.find_bitmaps.ensures
-    shown.map-map.ensures shown.widths-widths.ensures shown.code.ensures
+    shown.map-map.ensures.words shown.widths-widths.ensures.words shown.code.ensures
 
-behind : (shown : After-named-g) → 1 ≤ shown.named-g.result.bitmap
-behind shown = rw (glyph shown) (glyph-behind shown.args.v shown.args.font.now (get_or shown.args.text.now shown.loop-i.i 0))
+behind : (g : Over) (shown : After-named-g g) → 1 ≤ shown.named-g.result.bitmap
+behind g shown =
+    rw (glyph g shown) (glyph-behind shown.args.v shown.args.font.now (get_or shown.args.text.now shown.loop-byte.byte-index 0))
 
-pub loop-i-init : goal.loop-i-init
-loop-i-init c = (
-  omega arith,
-  refl,
-  (λ i. (c.type_inv.flip i).fits),
-  refl,
-  (λ i. (c.type_inv.keep i).fits),
-  refl,
-  ((λ sure. refl), (λ no. refl)),
-  refl,
-  gone-nowhere _,
-)
+pub loop-byte-init : goal.loop-byte-init
+loop-byte-init g c = begun _ _ _ _ _ _ _ (λ i. (c.type_inv.keep i).fits) (λ i. (c.type_inv.flip i).fits)
 
 pub mark_named-requires : goal.mark_named-requires
-mark_named-requires c = record {
-  drawable = drawable (goal.at.mark_named-requires c).At-loop-i;
-  k_in_bounds =
-      keep-room (goal.at.mark_named-requires c).At-loop-i;
-  place_le_farthest =
-      ((near (goal.at.mark_named-requires c).At-loop-i).0, behind (goal.at.mark_named-requires c).After-named-g);
-}
+mark_named-requires g c = let b = (goal.at.mark_named-requires g c).At-loop-byte in
+    record {
+      drawable = drawable g b;
+      settling = keep-room g b;
+      glyph = ((near g b (omega arith)).0, behind g (goal.at.mark_named-requires g c).After-named-g);
+      mode = c.requires.mode;
+    }
 
 pub after-pen-requires : goal.after-pen-requires
-after-pen-requires c =
-    let close = near (goal.at.after-pen-requires c).At-loop-i in
+after-pen-requires g c =
+    let close = near g (goal.at.after-pen-requires g c).At-loop-byte (omega arith) in
     (omega (arith, close.0), omega (arith, close.1))
 
-pub overflow_add-i : goal.overflow_add-i
-overflow_add-i c = omega (arith, less (goal.at.overflow_add-i c).After-named-g, c.requires.text_len_bound)
-
-pub loop-i-preserved : goal.loop-i-preserved
-unfolding face_from erasing
-loop-i-preserved c =
-    let i = c.loop-i.i in
-    let pen = c.loop-i.pen in
-    let next = c.after-pen.result in
-    let flip = c.loop-i.flip in
-    let keep = c.loop-i.keep in
-    let e = erasing c.args.k in
-    let kept = c.mark_named.ensures.keep in
-    let moved = c.after-pen.ensures.value ∙ ap (pen_after pen)
-    (c.step.ensures ∙ ap step_of (glyph (goal.at.loop-i-preserved c).After-named-g)) in
-    let marks = c.mark_named.ensures.flip ∙ ap (λ (h : Glyph). pictured whole (face_from c.args.v c.args.font.now) c.args.k pen h flip)
-    (glyph (goal.at.loop-i-preserved c).After-named-g) in (
-      omega (arith, less (goal.at.loop-i-preserved c).After-named-g),
-      pictured-length whole (face_from c.args.v c.args.font.now) c.args.k pen _ flip _ marks ∙ c.loop-i.invariant.1,
-      (λ n. (c.type_inv.flip n).fits),
-      kept-length c.args.settles _ c.args.k keep _ kept ∙ c.loop-i.invariant.3,
-      (λ n. (c.type_inv.keep n).fits),
-      c.loop-i.invariant.5 ∙ drawn-turn whole (face_from c.args.v c.args.font.now) c.args.k c.args.text.now i pen next flip _
-          (less (goal.at.loop-i-preserved c).After-named-g) (drawable (goal.at.loop-i-preserved c).At-loop-i).6 moved marks,
-      (
-        (λ sure. c.loop-i.invariant.6.0 sure
-            ∙ drawn-turn whole (face_from c.args.v c.args.font.now) e c.args.text.now i pen next keep _
-            (less (goal.at.loop-i-preserved c).After-named-g) (keep-room (goal.at.loop-i-preserved c).At-loop-i sure) moved
-            (kept-erased c.args.settles _ c.args.k keep _ kept sure
-            ∙ ap (λ (h : Glyph). pictured whole (face_from c.args.v c.args.font.now) e pen h keep)
-            (glyph (goal.at.loop-i-preserved c).After-named-g))),
-        (λ no. kept-stays c.args.settles _ c.args.k keep _ kept no ∙ c.loop-i.invariant.6.1 no),
-      ),
-      c.loop-i.invariant.7 ∙ along-turn (steps_of (face_from c.args.v c.args.font.now)) c.args.text.now i pen next
-          (less (goal.at.loop-i-preserved c).After-named-g) moved,
-      gone-on _ pen next i c.loop-i.invariant.8 c.after-pen.ensures.near,
-    )
+pub loop-byte-preserved : goal.loop-byte-preserved
+unfolding face_from
+loop-byte-preserved g c = let b = (goal.at.loop-byte-preserved g c).At-loop-byte in
+    so-far _ _ _ _ _ _ _ _ _ _ _ b.loop-byte.invariant c.loop-byte-test.true _ (glyph g (goal.at.loop-byte-preserved g c).After-named-g) _
+    (c.after-pen.ensures.value ∙ ap (pen_after c.loop-byte.pen) c.step.ensures) _ _ (λ n. (c.type_inv.keep n).fits)
+    (λ n. (c.type_inv.flip n).fits) (keep-room g b) (drawable g b).6 c.mark_named.ensures.keep c.mark_named.ensures.flip
+    c.after-pen.ensures.near
 
 pub returns : goal.returns
-unfolding erasing
-returns c =
-    let i = c.loop-i.i in
-    let pen = c.loop-i.pen in
-    let past = c.loop-i-test.false in
-    let flipped = drawn-done whole (face_from c.args.v c.args.font.now) c.args.k c.args.text.now i pen c.loop-i.flip past
-    c.loop-i.invariant.2 in
-    let erased = drawn-done whole (face_from c.args.v c.args.font.now) (erasing c.args.k) c.args.text.now i pen c.loop-i.keep past
-    c.loop-i.invariant.4 in record {
-      value = sym (c.loop-i.invariant.7 ∙ along-done (steps_of (face_from c.args.v c.args.font.now)) c.args.text.now i pen past);
-      near = near (goal.at.returns c).At-loop-i;
-      keep = kept-if c.args.settles _ c.args.k c.args.keep.now _ (λ sure. sym (c.loop-i.invariant.6.0 sure ∙ erased))
-          c.loop-i.invariant.6.1;
-      flip = sym (c.loop-i.invariant.5 ∙ flipped);
+returns g c =
+    let past = c.loop-byte-test.false in
+    let so = c.loop-byte.invariant in record {
+      value = last-is _ _ _ _ _ _ _ _ _ _ _ so past;
+      near = near g (goal.at.returns g c).At-loop-byte (omega arith);
+      keep = keep-is _ _ _ _ _ _ _ _ _ _ _ so past;
+      flip = flip-is _ _ _ _ _ _ _ _ _ _ _ so past;
     }

@@ -3,35 +3,46 @@
 use mathlib.Core.Path.{◌≡◌, sym, ap, ◌∙◌}
 use lib.IntN.{ℤ}
 use lib.ListN.{length}
+use mir.Syntax.{w32}
+use mir.Val.{to_z, of_z}
 use mir.Facts.{to_z-of_z}
-use native.Mathlib.Omega.{arith}
+use Rattle.std.proofs.lemmas.Result.{err_from_is_err_and}
 use Rattle.fonts.specs.Face.{face_from}
-use Rattle.paint.specs.declared.Pen.{Pen}
-use Rattle.paint.specs.Pen.{pen_along, steps_of}
 use Rattle.paint.specs.Label.{last_pen, measure_number}
-use Rattle.paint.proofs.Along.{pen-starts}
 use Rattle.paint.proofs.Replies.{measure-good, measuring-refused, measuring-done}
+use Rattle.paint.proofs.measure_read.Given.{Over}
 use Rattle.paint.proofs.measure_read.Goals as goal
-use Rattle.paint.proofs.measure_read.Goals.{After-measure_number-refusal}
+use Rattle.paint.proofs.measure_read.Goals.{After-check_measure}
 
-number : (n : After-measure_number-refusal) → n.measure_number-refusal.result ≡ measure_number n.args.x (length n.args.text.now)
-number n = n.measure_number-refusal.ensures ∙ ap (λ (z : ℤ). measure_number z (length n.args.text.now)) (to_z-of_z n.ranges.x)
+same-x : (g : Over) (n : After-check_measure g) → to_z w32 (of_z w32 n.args.x) ≡ n.args.x
+same-x g n = to_z-of_z n.ranges.x
 
-pub returns-then-refusal-ne0 : goal.returns-then-refusal-ne0
-returns-then-refusal-ne0 c = measuring-refused (face_from c.args.v c.args.font.now) c.args.x c.args.text.now _
-    (number (goal.at.returns-then-refusal-ne0 c).After-measure_number-refusal) c.if-refusal-ne0.true
+same-number : (g : Over) (n : After-check_measure g) → measure_number (to_z w32 (of_z w32 n.args.x)) (length n.args.text.now)
+    ≡ measure_number n.args.x (length n.args.text.now)
+same-number g n = ap (λ (z : ℤ). measure_number z (length n.args.text.now)) (same-x g n)
 
-pub pen_along-requires : goal.pen_along-requires
-pen_along-requires c =
-    let short = (measure-good c.args.x (length c.args.text.now)
-    (sym (number (goal.at.pen_along-requires c).After-measure_number-refusal) ∙ c.if-refusal-ne0.false)).1 in
-    record { starting = (omega arith, omega arith); text_len_bound = short }
+pub returns-in_err-check_measure : goal.returns-in_err-check_measure
+returns-in_err-check_measure g c =
+    let stopped = err_from_is_err_and c.from_residual.result c.from_residual.ensures.1 in
+    let number = c.in_err-check_measure.ensures ∙ same-number g (goal.at.returns-in_err-check_measure g c).After-check_measure in
+    rw (stopped.1, stopped.2)
+    (record {
+      value = measuring-refused (face_from c.args.v (g.F.Words.as_words c.args.font)) c.args.x c.args.text.now _ number;
+      number = number;
+    })
+
+pub last_pen-requires : goal.last_pen-requires
+last_pen-requires g c =
+    let number = c.in_ok-check_measure.ensures ∙ same-number g (goal.at.last_pen-requires g c).After-check_measure in
+    (measure-good c.args.x (length c.args.text.now) (sym number)).1
 
 pub returns : goal.returns
-unfolding last_pen
-returns c =
-    let pen = pen-starts _ c.args.x c.at.ensures.value c.ranges.x in
-    let last = c.pen_along.ensures.value ∙ ap (λ (p : Pen). pen_along (steps_of (face_from c.args.v c.args.font.now)) p c.args.text.now) pen
-    in
-    measuring-done (face_from c.args.v c.args.font.now) c.args.x c.args.text.now _ (number (goal.at.returns c).After-measure_number-refusal)
-    _ _ c.if-refusal-ne0.false c.done.ensures last
+returns g c =
+    let face = face_from c.args.v (g.F.Words.as_words c.args.font) in
+    let number = c.in_ok-check_measure.ensures ∙ same-number g (goal.at.returns g c).After-check_measure in
+    let last = c.last_pen.ensures.value
+    ∙ ap (λ (z : ℤ). last_pen face z c.args.text.now) (same-x g (goal.at.returns g c).After-check_measure) in
+    record {
+      value = rw c.finish.ensures (measuring-done face c.args.x c.args.text.now _ number last);
+      number = number;
+    }

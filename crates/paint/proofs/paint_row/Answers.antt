@@ -6,6 +6,7 @@ use mathlib.Core.List.{[], ◌∷◌}
 use native.Mathlib.Omega.{arith}
 use lib.ListN.{length}
 use Rattle.fonts.specs.Face.{face_from}
+use Rattle.fonts.proofs.Readings.{told-refused, told-accepted}
 use Rattle.paint.specs.declared.Stroke.{Stroke}
 use Rattle.paint.specs.declared.Pen.{Pen}
 use Rattle.paint.specs.Panel.{one_row}
@@ -18,7 +19,7 @@ use Rattle.paint.proofs.paint_row.Goals as goal
 use Rattle.paint.proofs.paint_row.Goals.{After-at, Start}
 
 number : (c : After-at) → 0 ≡ number_with (one_row c.args.s) (length c.args.words.now ∷ []) c.args.l (length c.args.text.now)
-number c = sym c.if-number_with-ne0.false ∙ c.number_with.ensures
+number c = sym (told-accepted _ (sym c.is_err.ensures.value ∙ c.if-is_err.false)) ∙ c.check_with.ensures
 
 stroke : (c : After-at) → c.in_row.result ≡ stroke_in_row (one_row c.args.s) c.args.l c.args.row
 stroke c = c.in_row.ensures
@@ -30,9 +31,9 @@ pub returns-then-row-gt255 : goal.returns-then-row-gt255
 returns-then-row-gt255 c = row-far (face_from c.args.v c.args.font.now) c.args.s c.args.l c.args.text.now c.args.row c.args.words.now
     c.if-row-gt255.true
 
-pub returns-then-number_with-ne0 : goal.returns-then-number_with-ne0
-returns-then-number_with-ne0 c = row-refused (face_from c.args.v c.args.font.now) c.args.s c.args.l c.args.text.now c.args.row
-    c.args.words.now _ c.number_with.ensures c.if-number_with-ne0.true
+pub returns-then-is_err : goal.returns-then-is_err
+returns-then-is_err c = row-refused (face_from c.args.v c.args.font.now) c.args.s c.args.l c.args.text.now c.args.row
+    c.args.words.now _ c.check_with.ensures (told-refused _ (sym c.is_err.ensures.value ∙ c.if-is_err.true))
 
 pub paint_text-requires : goal.paint_text-requires
 paint_text-requires c =
@@ -45,7 +46,7 @@ paint_text-requires c =
       drawable = rw (stroke (goal.at.paint_text-requires c).After-at)
           (drawable-in-row (one_row c.args.s) c.args.l c.args.row _ room);
       starting = (omega arith, omega arith);
-      text_len_bound = short;
+      short = short;
     }
 
 pub returns : goal.returns

@@ -1,47 +1,49 @@
+use Prim.Native.Nat.{◌≤◌}
 use mathlib.Core.Path.{◌≡◌, refl, sym, ap, ◌∙◌}
 use native.Mathlib.Omega.{arith}
 use lib.ListN.{length, get_or}
-use Rattle.fonts.specs.Face.{face_from, step_of}
-use Rattle.paint.specs.Pen.{pen_after, steps_of, Near}
+use Rattle.paint.specs.Pen.{pen_after, steps_in, Near}
 use Rattle.paint.proofs.Along.{along-turn, along-done, gone-nowhere, gone-on, gone-near}
-use Rattle.paint.proofs.Labels.{tabled-glyph}
+use Rattle.paint.proofs.pen_along.Given.{Over}
 use Rattle.paint.proofs.pen_along.Goals as goal
-use Rattle.paint.proofs.pen_along.Goals.{After-found, At-loop-i}
+use Rattle.paint.proofs.pen_along.Goals.{After-step, At-loop-byte}
 
-pub loop-i-init : goal.loop-i-init
-loop-i-init c = (omega arith, refl, gone-nowhere _)
+pub loop-byte-init : goal.loop-byte-init
+loop-byte-init g c = (refl, gone-nowhere _)
 
-near : (b : At-loop-i) → Near b.loop-i.pen
-near b = gone-near _ b.loop-i.pen b.loop-i.i (length b.args.text.now) b.requires.starting b.requires.text_len_bound b.loop-i.invariant.0
-    b.loop-i.invariant.2
+near : (g : Over) (b : At-loop-byte g) → b.loop-byte.byte-index ≤ length b.args.text.now → Near b.loop-byte.pen
+near g b here = gone-near _ b.loop-byte.pen b.loop-byte.byte-index (length b.args.text.now) b.requires.starting b.requires.short here
+    b.loop-byte.invariant.1
 
-glyph : (shown : After-found) → shown.found.result
-    ≡ (face_from shown.args.v shown.args.font.now).glyph (get_or shown.args.text.now shown.loop-i.i 0)
-glyph shown =
-    tabled-glyph shown.args.v shown.args.font.now _ _ shown.found.ensures
-    shown.bitmaps-bitmaps.ensures shown.code.ensures
+step : (g : Over) (stepped : After-step g) → stepped.step.result
+    ≡ (steps_in stepped.args.h (g.F.Words.as_words stepped.args.pointers) (g.F.Words.as_words stepped.args.widths) stepped.args.dummy)
+    (get_or stepped.args.text.now stepped.loop-byte.byte-index 0)
+step g stepped =
+    stepped.step.ensures
+    ∙ ap (steps_in stepped.args.h (g.F.Words.as_words stepped.args.pointers) (g.F.Words.as_words stepped.args.widths) stepped.args.dummy)
+    stepped.code.ensures
 
 pub after-pen-requires : goal.after-pen-requires
-after-pen-requires c =
-    let close = near (goal.at.after-pen-requires c).At-loop-i in
+after-pen-requires g c =
+    let close = near g (goal.at.after-pen-requires g c).At-loop-byte (omega arith) in
     (omega (arith, close.0), omega (arith, close.1))
 
-pub loop-i-preserved : goal.loop-i-preserved
-loop-i-preserved c =
-    let i = c.loop-i.i in
-    let pen = c.loop-i.pen in
-    let next = c.after-pen.result in
-    let moved = c.after-pen.ensures.value ∙ ap (pen_after pen)
-    (c.step.ensures ∙ ap step_of (glyph (goal.at.loop-i-preserved c).After-found)) in (
-      omega arith,
-      c.loop-i.invariant.1 ∙ along-turn (steps_of (face_from c.args.v c.args.font.now)) c.args.text.now i pen next (omega arith) moved,
-      gone-on _ pen next i c.loop-i.invariant.2 c.after-pen.ensures.near,
+pub loop-byte-preserved : goal.loop-byte-preserved
+loop-byte-preserved g c =
+    let pen = c.loop-byte.pen in
+    let moved = c.after-pen.ensures.value ∙ ap (pen_after pen) (step g (goal.at.loop-byte-preserved g c).After-step) in (
+      c.loop-byte.invariant.0
+          ∙ along-turn
+          (steps_in c.args.h (g.F.Words.as_words c.args.pointers) (g.F.Words.as_words c.args.widths) c.args.dummy) c.args.text.now
+          c.loop-byte.byte-index pen _ c.loop-byte-test.true moved,
+      gone-on _ pen _ c.loop-byte.byte-index c.loop-byte.invariant.1 c.after-pen.ensures.near,
     )
 
 pub returns : goal.returns
-returns c = record {
-  value = sym (c.loop-i.invariant.1
-      ∙ along-done (steps_of (face_from c.args.v c.args.font.now)) c.args.text.now c.loop-i.i c.loop-i.pen (omega arith));
-  near =
-      near (goal.at.returns c).At-loop-i;
+returns g c = record {
+  value = sym (c.loop-byte.invariant.0
+      ∙ along-done
+      (steps_in c.args.h (g.F.Words.as_words c.args.pointers) (g.F.Words.as_words c.args.widths) c.args.dummy) c.args.text.now
+      c.loop-byte.byte-index c.loop-byte.pen c.loop-byte-test.false);
+  near = near g (goal.at.returns g c).At-loop-byte (omega arith);
 }

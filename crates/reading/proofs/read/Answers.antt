@@ -1,33 +1,29 @@
--- What one read has taken of the input comes behind what the reads before it have.
-use Rattle.std.proofs.Common.{◌≡◌, ◌∙◌, ◌+◌, ◌-◌, ◌≤◌, ℕ, List, ◌++◌, Option, take, slice_range, sym, ap, subst, rules, arith}
-use Rattle.std.proofs.Math.Seq.{take-add}
+-- What one read has taken of the input comes to stand behind what the reads before it have.
+use Rattle.std.proofs.Common.{◌≡◌, ◌∙◌, ◌+◌, ◌≤◌, ℕ, List, ◌++◌, length, take, sym, ap, subst, arith, length-append}
+use Rattle.std.proofs.lemmas.List.{length-take-le, take-append-le}
+use Rattle.std.proofs.Math.Seq.{take-append-add}
 use Rattle.std.proofs.KnownBytes.{Consumes-trans}
 use Rattle.std.specs.Io.KnownBytes.{Consumes}
+use borrow.Rule.Slice.PartMut.{put_mid, post_of}
+use Rattle.reading.proofs.Counting.{prefix_len_of_le}
 use Rattle.reading.proofs.read.Goals as goal
 
-one_more : (a b : ℕ) (old new : List ℕ) → a ≤ b → take a new ≡ take a old → take a old ++ slice_range new a b ≡ take b new
-one_more a b old new more before =
-    let so_many : a + (b - a) ≡ b = omega arith in
-    ap (λ l. l ++ slice_range new a b) (sym before)
-    ∙ (sym (take-add a (b - a) new)
-    ∙ ap (λ n. take n new) so_many)
-
-taken_on : (whole left after : Option (List ℕ)) (a b : ℕ) (old new : List ℕ) → a ≤ b → take a new ≡ take a old
-    → Consumes whole left (take a old) → Consumes left after (slice_range new a b) → Consumes whole after (take b new)
-taken_on whole left after a b old new more before first second =
-    subst (Consumes whole after) (one_more a b old new more before) (Consumes-trans whole left after _ _ first second)
-
-pub returns-then-input-clause-taken : goal.returns-then-input-clause-taken
-returns-then-input-clause-taken g c =
-    let read = c.read_on-input.ensures in
-    taken_on _ _ _ _ _ _ _ read.bytes.0 read.before c.loop-at.invariant.taken read.taken
+one_more : (a k n : ℕ) (xs ys : List ℕ) → a ≤ length xs → n ≤ length ys → take a xs ++ take n ys ≡ take (a + n) (put_mid a k xs ys)
+one_more a k n xs ys within some =
+    let front = take a xs in
+    let rest = ys ++ post_of a k xs in
+    sym
+    (ap (λ m. take (m + n) (front ++ rest)) (sym (length-take-le a xs within))
+    ∙ (take-append-add front rest n
+    ∙ ap (λ l. front ++ l) (take-append-le n ys (post_of a k xs) some)))
 
 pub loop-at-preserved : goal.loop-at-preserved
 loop-at-preserved g c =
-    let read = c.read_on-input.ensures in
+    let so_far = c.loop-at.invariant in
+    let read = c.in-Ok.ensures in
+    let taken = one_more _ _ _ _ _ so_far.there.0 read.bound.0 in
     record {
-      small = search rules;
-      told = search rules;
-      within = search rules;
-      taken = taken_on _ _ _ _ _ _ _ read.bytes.0 read.before c.loop-at.invariant.taken read.taken;
+      small = omega arith;
+      there = prefix_len_of_le _ _ (omega (arith, ap length taken, length-append {A = ℕ}, length-take-le {A = ℕ}));
+      taken = subst (Consumes _ _) taken (Consumes-trans _ _ _ _ _ so_far.taken read.bytes.0);
     }

@@ -1,9 +1,7 @@
 -- `sheets::join_words` meets its contract: each turn joins the next effect of the second sheet onto the first's, which no turn before has
 -- touched.
 -- Assumes nothing.
-use Prim.Native.Nat.{◌-◌, ◌≤◌}
 use mathlib.Core.Path.{◌≡◌}
-use lib.ListN.{length}
 use Rattle.words.specs.Effect.{join_of}
 use Rattle.words.specs.Word.{over}
 use Rattle.paint.specs.Sheet.{sheet_of, effect_at}
@@ -11,11 +9,7 @@ use Rattle.sheets.proofs.join_words.Given as goal
 
 abbrev pub invariant-loop-i : goal.invariant-loop-i
 invariant-loop-i l =
-    (l.i ≤ l.n) × (length l.keep ≡ length l.initial.keep) × (length l.flip ≡ length l.initial.flip)
-    × (l.keep ≡ over l.i (λ j. (join_of (effect_at (sheet_of l.initial.keep l.initial.flip) j)
+    (l.keep ≡ over l.i (λ j. (join_of (effect_at (sheet_of l.initial.keep l.initial.flip) j)
     (effect_at (sheet_of l.keep2 l.flip2) j)).keep) l.initial.keep)
     × (l.flip ≡ over l.i (λ j. (join_of (effect_at (sheet_of l.initial.keep l.initial.flip) j)
     (effect_at (sheet_of l.keep2 l.flip2) j)).flip) l.initial.flip)
-
-abbrev pub decreases-loop-i : goal.decreases-loop-i
-decreases-loop-i l = l.n - l.i

@@ -3,7 +3,6 @@
 use Prim.Native.Nat.{◌*◌, ◌≤◌}
 use native.Mathlib.Nat.{mul-le-mul}
 use native.Mathlib.Omega.{arith}
-use Rattle.convert.specs.Cu.{char_words, rows, row_words}
 use Rattle.convert.proofs.cu.char_words.Goals as goal
 use Rattle.convert.proofs.cu.char_words.Goals.{After-word_at-2}
 
@@ -15,7 +14,3 @@ overflow_mul-result c = omega (arith, product (goal.at.overflow_mul-result c).Af
 
 pub overflow_add-result : goal.overflow_add-result
 overflow_add-result c = omega (arith, product (goal.at.overflow_add-result c).After-word_at-2)
-
-pub returns : goal.returns
-unfolding char_words rows row_words
-returns c = record { value = cc; some = omega arith }

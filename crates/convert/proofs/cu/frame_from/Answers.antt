@@ -6,7 +6,7 @@ use native.Mathlib.Omega.{arith}
 use Rattle.convert.specs.Cu.{first_in_row, frame_from}
 use Rattle.convert.proofs.Measured.{lowest-few, first-few, leftmost-few, rightmost-few, top-few, bottom-few}
 use Rattle.convert.proofs.cu.frame_from.Goals as goal
-use Rattle.convert.proofs.cu.frame_from.Goals.{After-past, After-past-2, After-top-first}
+use Rattle.convert.proofs.cu.frame_from.Goals.{After-saturating_sub, After-saturating_sub-2, After-top-first}
 
 row-few : (c : After-top-first) → c.lowest_of-row.result ≤ 128
 row-few c = omega (arith, c.lowest_of-row.ensures, lowest-few c.args.cu.now c.requires c.args.place)
@@ -34,30 +34,30 @@ overflow_cast-result-3 c = omega (arith, first-row-few (goal.at.overflow_cast-re
 pub fbbox-requires : goal.fbbox-requires
 fbbox-requires c = (left-few (goal.at.fbbox-requires c).After-top-first, origin-few (goal.at.fbbox-requires c).After-top-first)
 
-wide-few : (c : After-past) → c.past.result ≤ 256
+wide-few : (c : After-saturating_sub) → c.saturating_sub.result ≤ 256
 wide-few c =
-    omega (arith, c.past.ensures, c.rightmost.ensures, rightmost-few c.args.cu.now c.requires)
+    omega (arith, c.saturating_sub.ensures, c.rightmost.ensures, rightmost-few c.args.cu.now c.requires)
 
 pub overflow_add-result : goal.overflow_add-result
-overflow_add-result c = omega (arith, wide-few (goal.at.overflow_add-result c).After-past)
+overflow_add-result c = omega (arith, wide-few (goal.at.overflow_add-result c).After-saturating_sub)
 
 pub overflow_cast-result-4 : goal.overflow_cast-result-4
-overflow_cast-result-4 c = omega (arith, wide-few (goal.at.overflow_cast-result-4 c).After-past)
+overflow_cast-result-4 c = omega (arith, wide-few (goal.at.overflow_cast-result-4 c).After-saturating_sub)
 
-row-few-after-past2 : (c : After-past-2) → c.lowest_of-row.result ≤ 128
-row-few-after-past2 c = omega (arith, c.lowest_of-row.ensures, lowest-few c.args.cu.now c.requires c.args.place)
+row-few-above : (c : After-saturating_sub-2) → c.lowest_of-row.result ≤ 128
+row-few-above c = omega (arith, c.lowest_of-row.ensures, lowest-few c.args.cu.now c.requires c.args.place)
 
-above-few : (c : After-past-2) → c.past-2.result ≤ 128
-above-few c = omega (arith, c.past-2.ensures, row-few-after-past2 c)
+above-few : (c : After-saturating_sub-2) → c.saturating_sub-2.result ≤ 128
+above-few c = omega (arith, c.saturating_sub-2.ensures, row-few-above c)
 
 pub overflow_add-result-2 : goal.overflow_add-result-2
-overflow_add-result-2 c = omega (arith, above-few (goal.at.overflow_add-result-2 c).After-past-2)
+overflow_add-result-2 c = omega (arith, above-few (goal.at.overflow_add-result-2 c).After-saturating_sub-2)
 
 pub overflow_cast-result-5 : goal.overflow_cast-result-5
-overflow_cast-result-5 c = omega (arith, above-few (goal.at.overflow_cast-result-5 c).After-past-2)
+overflow_cast-result-5 c = omega (arith, above-few (goal.at.overflow_cast-result-5 c).After-saturating_sub-2)
 
 pub overflow_cast-result-6 : goal.overflow_cast-result-6
-overflow_cast-result-6 c = omega (arith, c.past-3.ensures, c.bottom.ensures, bottom-few c.args.cu.now c.requires)
+overflow_cast-result-6 c = omega (arith, c.saturating_sub-3.ensures, c.bottom.ensures, bottom-few c.args.cu.now c.requires)
 
 pub returns : goal.returns
 unfolding frame_from
@@ -69,9 +69,9 @@ returns c =
     let first = c.top-first.ensures in
     let box = c.fbbox.ensures ∙ ap₂ (λ (l o : ℕ). (65536 + l - o) % 65536) left origin in
     let right = c.rightmost.ensures in
-    let wide = c.past.ensures ∙ ap₂ (λ (r l : ℕ). r - l) right left in
-    let above = c.past-2.ensures ∙ ap₂ (λ (r t : ℕ). r - t) row first in
-    let below = c.past-3.ensures ∙ ap₂ (λ (b r : ℕ). b - r) c.bottom.ensures row in
+    let wide = c.saturating_sub.ensures ∙ ap₂ (λ (r l : ℕ). r - l) right left in
+    let above = c.saturating_sub-2.ensures ∙ ap₂ (λ (r t : ℕ). r - t) row first in
+    let below = c.saturating_sub-3.ensures ∙ ap₂ (λ (b r : ℕ). b - r) c.bottom.ensures row in
     λ i. record {
       origin = origin i;
       left = left i;

@@ -1,76 +1,13 @@
-use Prim.Native.Nat.{◌+◌, ◌≤◌, ◌<◌}
-use mathlib.Core.Path.{◌≡◌, refl, ap, ◌∙◌}
 use native.Mathlib.Omega.{arith}
-use lib.ListN.{length}
-use lib.Bits.{bit_and}
-use lib.Count.{ones}
-use Rattle.words.specs.Word.{word}
-use Rattle.counts.specs.Band.{lit_in_word}
-use Rattle.counts.proofs.Counting.{first-place, next_place, place_inside, place-low, none-counted, row-counted, few-dots}
+use Rattle.counts.proofs.Counting.{none-counted, row-counted, few-dots}
 use Rattle.counts.proofs.Band.lit_in_one.Goals as goal
-use Rattle.counts.proofs.Band.lit_in_one.Goals.{At-loop-row}
-
-inside : (b : At-loop-row) → (less : b.loop-row.row < b.args.self.rows) → b.loop-row.at < length b.args.panel.now
-inside b less =
-    let here = b.loop-row.invariant.1 in
-    let there = place_inside b.args.self b.args.w (length b.args.panel.now) b.loop-row.row b.requires.0 b.requires.1 less in
-    omega (arith, here, there)
-
-low : (b : At-loop-row) → (less : b.loop-row.row < b.args.self.rows) → b.loop-row.at + b.args.self.rowwords ≤ 131071
-low b less =
-    let here = b.loop-row.invariant.1 in
-    let there = place-low b.args.self b.args.w (length b.args.panel.now) b.loop-row.row b.requires.0 b.requires.1 less in
-    omega (arith, here, there)
-
-few : (b : At-loop-row) → (less : b.loop-row.row < b.args.self.rows)
-    → ones (bit_and (word b.args.panel.now b.loop-row.at) b.mask-mask.result) ≤ 16
-few b less =
-    few-dots b.args.self b.args.w (word b.args.panel.now b.loop-row.at) b.mask-mask.result (omega arith) (omega arith) b.mask-mask.ensures
-
-pub overflow_add-at : goal.overflow_add-at
-overflow_add-at c =
-    let at = c.requires.0.3 in
-    let last = c.requires.0.1 in
-    omega (arith, at, last, c.requires.1)
 
 pub loop-row-init : goal.loop-row-init
-loop-row-init c =
-    let w = c.args.w in
-    (omega arith, first-place c.args.self w, none-counted c.args.self w (word c.args.panel.now), omega arith)
-
-pub offset_bounds-panel-at : goal.offset_bounds-panel-at
-offset_bounds-panel-at c = let there = low (goal.at.offset_bounds-panel-at c).At-loop-row c.loop-row-test.true in omega (arith, there)
-
-pub bounds-panel-at : goal.bounds-panel-at
-bounds-panel-at c = inside (goal.at.bounds-panel-at c).At-loop-row c.loop-row-test.true
-
-pub overflow_add-sum : goal.overflow_add-sum
-overflow_add-sum c =
-    let more = few (goal.at.overflow_add-sum c).At-loop-row c.loop-row-test.true in
-    let most = c.requires.0.0 in
-    omega (arith, more, most, c.loop-row.invariant.3, c.loop-row-test.true)
-
-pub overflow_add-at-in-loop-row : goal.overflow_add-at-in-loop-row
-overflow_add-at-in-loop-row c =
-    let there = low (goal.at.overflow_add-at-in-loop-row c).At-loop-row c.loop-row-test.true in omega (arith, there)
+loop-row-init g c = (none-counted c.args.self c.args.w _, omega arith)
 
 pub loop-row-preserved : goal.loop-row-preserved
-loop-row-preserved c =
-    let less = c.loop-row-test.true in
-    let more = few (goal.at.loop-row-preserved c).At-loop-row less in
-    let inv = c.loop-row.invariant in (
-      omega (arith, less),
-      next_place c.args.self c.args.w c.loop-row.row c.loop-row.at inv.1,
-      row-counted c.args.self c.args.w (word c.args.panel.now) c.loop-row.row c.loop-row.sum c.loop-row.at _ _ inv.2 inv.1 refl
-          c.mask-mask.ensures,
-      omega (arith, more, inv.3),
-    )
-
-pub returns : goal.returns
-returns c =
-    let there : c.loop-row.row ≡ c.args.self.rows = omega (arith, c.loop-row.invariant.0) in
-    let most = c.requires.0.0 in
-    let inv = c.loop-row.invariant in record {
-      value = inv.2 ∙ ap (lit_in_word c.args.self (word c.args.panel.now) c.args.w) there;
-      near = omega (arith, inv.3, inv.0, most);
-    }
+loop-row-preserved g c =
+    let a = c.args in
+    let inv = c.loop-row.invariant in
+    let few = few-dots a.self a.w c.word_at.result c.mask-mask.result (omega arith) (omega arith) c.mask-mask.ensures in
+    (row-counted a.self a.w _ c.loop-row.row c.loop-row.sum _ _ inv.0 c.word_at.ensures c.mask-mask.ensures, omega (arith, few, inv.1))

@@ -1,18 +1,9 @@
--- `counts::Band::lit_in_one` meets its contract. The invariant: the rows so far are counted, and the next one's word stands so many rows
--- further.
+-- `counts::Band::lit_in_one` meets its contract. The invariant: the rows so far are counted.
 -- Assumes nothing.
-use Prim.Native.Nat.{◌+◌, ◌-◌, ◌*◌, ◌≤◌}
+use Prim.Native.Nat.{◌*◌, ◌≤◌}
 use mathlib.Core.Path.{◌≡◌}
-use Rattle.words.specs.Word.{word}
 use Rattle.counts.specs.Band.{lit_in_word}
 use Rattle.counts.proofs.Band.lit_in_one.Given as goal
 
 abbrev pub invariant-loop-row : goal.invariant-loop-row
-invariant-loop-row l =
-    (l.row ≤ l.self.rows)
-    × (l.at ≡ l.self.at + l.w + l.row * l.self.rowwords)
-    × (l.sum ≡ lit_in_word l.self (word l.panel) l.w l.row)
-    × (l.sum ≤ 16 * l.row)
-
-abbrev pub decreases-loop-row : goal.decreases-loop-row
-decreases-loop-row l = l.self.rows - l.row
+invariant-loop-row g l = (l.sum ≡ lit_in_word l.self (g.D.Dots.words l.dots) l.w l.row) × (l.sum ≤ 16 * l.row)

@@ -7,4 +7,4 @@ use Rattle.counts.proofs.Band.mask.Goals as goal
 
 pub returns : goal.returns
 unfolding mask_of
-returns c = ap₂ bit_and c.head_at.ensures c.tail_at.ensures
+returns c = ap₂ bit_and c.only_at.ensures c.only_at-2.ensures

@@ -22,17 +22,17 @@ returns-then-index c =
     c.named.ensures
     ∙ ap (λ (n : Named). glyph_named a.v a.bitmaps.now font n)
     (c.of.ensures
-    ∙ ap₂ (λ (map widths : List ℕ). named_in h map widths a.code) c.map.ensures
-    c.widths-widths.ensures)
+    ∙ ap₂ (λ (map widths : List ℕ). named_in h map widths a.code) c.map.ensures.words
+    c.widths-widths.ensures.words)
     ∙ sym (named-glyph h (strike_by a.v a.bitmaps.now font) font indexed a.code)
 
 pub returns : goal.returns
 returns c =
     let a = c.args in
     let font = a.font.now in
-    let table = c.pointers.ensures ∙ ap (λ (s : Strike). pointers_of s font) c.first.ensures in
+    let table = c.pointers.ensures.words ∙ ap (λ (s : Strike). pointers_of s font) c.first.ensures in
     let single = sym c.index.ensures ∙ c.if-index.false in
     c.at.ensures
     ∙ ap₂ (λ (pointers widths : List ℕ). glyph_in a.v pointers widths a.code) table
-    c.widths-widths.ensures
+    c.widths-widths.ensures.words
     ∙ sym (struck-glyph a.v (strike_by a.v a.bitmaps.now font) font single (first_by a.v a.bitmaps.now font) a.code)

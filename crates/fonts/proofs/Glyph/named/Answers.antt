@@ -24,7 +24,7 @@ returns c =
     c.with.ensures
     ∙ ap (λ (e : Entry). picture_of a.v.header found.result e n.substitute)
     (c.with-entry.ensures
-    ∙ ap (λ (pointers : List ℕ). entry_with pointers name.result.code n.width) c.pointers.ensures)
+    ∙ ap (λ (pointers : List ℕ). entry_with pointers name.result.code n.width) c.pointers.ensures.words)
     ∙ ap (λ (s : Strike). picture_of a.v.header s (entry_with (pointers_of s font) name.result.code n.width) n.substitute)
     found.ensures
     ∙ ap (λ (m : Name). picture_of a.v.header (strikes m.body)

@@ -5,4 +5,4 @@ use Rattle.fonts.proofs.Header.of.Goals as goal
 
 pub returns : goal.returns
 unfolding header_of
-returns c = cc
+returns g c = cc

@@ -5,4 +5,4 @@ use Rattle.fonts.proofs.View.of.Goals as goal
 
 pub returns : goal.returns
 unfolding view_of
-returns c = cc
+returns g c = cc

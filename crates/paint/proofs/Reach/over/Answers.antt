@@ -26,16 +26,16 @@ overflow_add-result c = omega (arith, rows-far (goal.at.overflow_add-result c).A
 pub overflow_mul-result-2 : goal.overflow_mul-result-2
 overflow_mul-result-2 c =
     let g = c.args.g in
-    omega (arith, strike-far c.past-2.result g.raster (omega arith) (omega arith))
+    omega (arith, strike-far c.saturating_sub-2.result g.raster (omega arith) (omega arith))
 
 pub overflow_add-result-2 : goal.overflow_add-result-2
 overflow_add-result-2 c =
     let g = c.args.g in
-    omega (arith, strike-far c.past-2.result g.raster (omega arith) (omega arith))
+    omega (arith, strike-far c.saturating_sub-2.result g.raster (omega arith) (omega arith))
 
 pub returns : goal.returns
 unfolding reach_over
 returns c =
     let g = c.args.g in
-    let rows = strike-far c.past-2.result g.raster (omega arith) (omega arith) in
+    let rows = strike-far c.saturating_sub-2.result g.raster (omega arith) (omega arith) in
     record { value = cc; near = (omega (arith, rows), omega arith, omega arith) }

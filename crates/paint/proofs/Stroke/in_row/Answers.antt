@@ -10,5 +10,5 @@ pub returns : goal.returns
 unfolding stroke_of stroke_in_row
 returns c =
     let k = c.of-k.ensures in
-    let y = c.past.ensures ∙ ap (λ (stroke : Stroke). stroke.y - c.args.row) k in
+    let y = c.saturating_sub.ensures ∙ ap (λ (stroke : Stroke). stroke.y - c.args.row) k in
     λ i. record { rowwords = (k i).rowwords; rows = (k i).rows; strip = (k i).strip; y = y i; mode = (k i).mode }

@@ -11,11 +11,12 @@ use Rattle.preview.proofs.picture.put_picture.Goals as goal
 
 pub returns : goal.returns
 returns c =
-    let panel = c.args.panel.now in
-    let rows = c.part-rows.ensures ∙ ap (λ (k : ℕ). take k panel) c.panel_words.ensures in
-    let size : length c.part-rows.result.now ≡ panel_words c.args.s =
-    ap length rows ∙ length-take-le (panel_words c.args.s) panel c.requires.s_in_bounds.0 in
-    rows_behind (header_of c.args.s) (take (panel_words c.args.s) panel) c.part-rows.result.now c.args.out.now rows (omega arith)
+    let size : length (take c.panel_words.result c.args.panel.now) ≡ panel_words c.args.s =
+    ap (λ (k : ℕ). length (take k c.args.panel.now)) c.panel_words.ensures
+    ∙ length-take-le (panel_words c.args.s) c.args.panel.now c.requires.s_in_bounds.2 in
+    rows_behind (header_of c.args.s) (take (panel_words c.args.s) c.args.panel.now) _ c.args.out.now
+    (ap (λ (k : ℕ). take k c.args.panel.now) c.panel_words.ensures)
+    (omega arith)
     c.put_header-at.result
     c.to_bytes.result
     c.put_header-at.new.out

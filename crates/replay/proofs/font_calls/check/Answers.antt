@@ -5,4 +5,4 @@ use Rattle.replay.proofs.font_calls.check.Goals as goal
 
 pub returns : goal.returns
 unfolding check_answer
-returns g c = then _ _ _ c.put_head-at.ensures (one_byte _ _ c.put.ensures)
+returns g c = then _ _ _ c.put_head.ensures (one_byte _ _ c.put.ensures)

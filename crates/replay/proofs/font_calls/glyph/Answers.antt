@@ -8,5 +8,5 @@ pub returns : goal.returns
 unfolding glyph_answer
 returns g c =
     let shown = c.glyph_of.ensures ∙ ap (glyph_of c.args.font.now) c.number.ensures in
-    then _ _ _ c.put_head-at.ensures
-    (then _ _ _ (puts-same _ c.put_glyph-at.ensures (ap glyph_bytes shown)) (one_byte _ _ c.put.ensures))
+    then _ _ _ c.put_head.ensures
+    (then _ _ _ (puts-same _ c.put_glyph.ensures (ap glyph_bytes shown)) (one_byte _ _ c.put.ensures))

@@ -1,14 +1,16 @@
--- `replay::sheet_calls::gather` gathers by the line's numbers.
-use mathlib.Core.Path.{ap₂, ◌∙◌}
-use Rattle.paint.specs.declared.Shape.{Shape}
-use Rattle.paint.specs.declared.Label.{Label}
-use Rattle.paint.specs.Label.{call_of}
-use Rattle.paint.specs.Sheet.{sheet_of}
-use Rattle.sheets.specs.Sheet.{gather_reply}
+-- `replay::sheet_calls::gather` gathers onto the sheet that the line names.
+use mathlib.Core.Path.{ap, ◌∙◌}
+use Rattle.std.specs.Prelude.{codes}
+use Rattle.replay.proofs.Putting.{puts-same}
+use Rattle.replay.specs.Calls.{reply_bytes}
+use Rattle.replay.specs.Answers.{gather_answer}
 use Rattle.replay.proofs.sheet_calls.gather.Goals as goal
 
 pub returns : goal.returns
-returns c =
-    c.gather.ensures.value
-    ∙ ap₂ (λ (s : Shape) (l : Label). gather_reply s (call_of c.args.font.now l c.args.text.now) (sheet_of c.args.keep.now c.args.flip.now))
-    c.shape.ensures c.label.ensures
+unfolding gather_answer
+returns g c =
+    let text = c.as_slice-2.ensures.value ∙ c.text-text.ensures in
+    let sheet = c.chosen_mut-sheet.ensures in
+    let call = rw (c.shape.ensures, c.as_slice.ensures.value, c.label.ensures, text) at c.gather-reply.ensures.value in
+    let reply = rw (c.as_mut_slice-keep.ensures.value, c.as_mut_slice-flip.ensures.value, sheet, c.number.ensures) at call in
+    puts-same _ c.put_reply.ensures (ap (reply_bytes (codes "gather")) reply)

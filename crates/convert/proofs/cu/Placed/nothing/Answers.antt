@@ -1,9 +1,0 @@
--- `convert::cu::Placed::nothing` meets its contract: 256 zeros are the table of zeros.
--- Assumes nothing.
-use mathlib.Core.Path.{refl}
-use Rattle.words.specs.Word.{table}
-use Rattle.convert.proofs.cu.Placed.nothing.Goals as goal
-
-pub returns : goal.returns
-unfolding table
-returns c = refl

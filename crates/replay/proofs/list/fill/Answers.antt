@@ -1,7 +1,0 @@
-use Prim.Native.Nat.{◌-◌}
-use lib.ListN.{length-set}
-use native.Mathlib.Omega.{arith}
-use Rattle.replay.proofs.list.fill.Goals as goal
-
-pub loop-i-preserved : goal.loop-i-preserved
-loop-i-preserved c = simp length-set (omega arith)
