@@ -7,7 +7,7 @@ use mathlib.Core.List.{List, [], ◌∷◌}
 use lib.Dec.{eqb, ltb}
 use lib.IntN.{ℤ}
 use lib.ListN.{length}
-use borrow.Author.Tests.{eqb-true}
+use borrow.Author.Tests.{eqb-true, ne_eqb}
 use Rattle.std.specs.declared.result.Result.{Result}
 use Rattle.std.specs.declared.result.Result.TheVariants.{Ok, Err}
 use Rattle.words.specs.declared.refusal.Refusal.{Refusal}
@@ -19,6 +19,7 @@ use Rattle.fonts.specs.Strike.{header_of, view_of, body_of, body_start, first_at
 use Rattle.fonts.specs.Reading.{front_number, head_number, body_number, bodies_number, table_number, number_by, font_number, reading_of}
 use Rattle.fonts.specs.Reading.{too_short, bad_format, kerned_too_short, bad_codes, bad_count, bad_box, bad_sizes, wrong_length, wrong_end}
 use Rattle.fonts.specs.Face.{face_of}
+use Rattle.fonts.proofs.Readings.{read-refused}
 use Rattle.fontbytes.specs.File.{file_number, file_reading}
 use Rattle.convert.proofs.Answers.{Known}
 use Rattle.paint.specs.declared.Shape.{Shape}
@@ -99,6 +100,18 @@ reading-number ws = returned-is (font_number ws) (view_of ws) (font-known ws)
 
 pub file-reading-number : (bytes : List ℕ) → returned (file_reading bytes) ≡ file_number bytes
 file-reading-number bytes = returned-is (file_number bytes) (view_of (words_of bytes)) (file-known bytes)
+
+-- so a refusal that it answers has the font's number, and that is not 0
+pub refused-font : (ws : List ℕ) (refusal : Refusal) → reading_of ws ≡ Err refusal
+    → (number_of refusal ≡ font_number ws) × (number_of refusal ≡ 0 → ⊥)
+refused-font ws refusal =
+    read-refused (font_number ws) (view_of ws) refusal (λ some. (font-known ws).known (ne_eqb (font_number ws) 0 some))
+
+pub refused-file : (bytes : List ℕ) (refusal : Refusal) → file_reading bytes ≡ Err refusal
+    → (number_of refusal ≡ file_number bytes) × (number_of refusal ≡ 0 → ⊥)
+refused-file bytes refusal =
+    read-refused (file_number bytes) (view_of (words_of bytes)) refusal
+    (λ some. (file-known bytes).known (ne_eqb (file_number bytes) 0 some))
 
 -- ---- labels
 

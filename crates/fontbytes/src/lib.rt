@@ -4,14 +4,15 @@
 
 ghost use Rattle.std.specs.Prelude.{◌≡◌, true, ◌-◌, ◌≤◌};
 ghost use Rattle.words.specs.Refusal.{returned};
-ghost use Rattle.fonts.specs.Strike.{index, codes};
+ghost use Rattle.words.specs.Word.{words_of};
+ghost use Rattle.fonts.specs.Strike.{index, codes, pointers_of, widths_of, map_of};
 ghost use Rattle.fonts.specs.Entry.{entry_at, advance_of};
 ghost use Rattle.fonts.specs.Face.{step_of};
 ghost use Rattle.fonts.specs.Kinds.{step_by, glyph_tabled, entry_tabled, mapped_place};
 ghost use Rattle.fontbytes.specs.File.{file_number, file_reading};
-ghost use Rattle.fontbytes.specs.Parts.{for_step};
+ghost use Rattle.fontbytes.specs.Parts.{pointer_bytes, width_bytes, map_bytes, for_step};
 
-use fonts::{Entry, Header, Name, Step, View};
+use fonts::{Entry, Header, Name, Step, Strike, View};
 use words::{Refusal, Words};
 
 // Reads a font: what finds its glyphs, or its refusal.
@@ -33,6 +34,30 @@ pub fn number(font: &[u8]) -> u32
         return Refusal::OddBytes.number();
     }
     fonts::number(font)
+}
+
+// The column pointers of a body: the part of the bytes that begins after the bitmap.
+pub fn pointers(font: &[u8], s: Strike) -> &[u8]
+    ensures held { result.now ≡ pointer_bytes s font.now }
+    ensures words { words_of result.now ≡ pointers_of s (words_of font.now) }
+{
+    fonts::pointers(font, s)
+}
+
+// The width entries: the last part of the bytes.
+pub fn widths(font: &[u8], h: Header) -> &[u8]
+    ensures held { result.now ≡ width_bytes h font.now }
+    ensures words { words_of result.now ≡ widths_of h (words_of font.now) }
+{
+    fonts::widths(font, h)
+}
+
+// The map: the part of the bytes behind the words at the front.
+pub fn map(font: &[u8], h: Header) -> &[u8]
+    ensures held { result.now ≡ map_bytes h font.now }
+    ensures words { words_of result.now ≡ map_of h (words_of font.now) }
+{
+    fonts::map(font, h)
 }
 
 // Of an entry what a step of the pen asks for, without an index: the width entry in a kerned font, the two pointers in a plain one. What

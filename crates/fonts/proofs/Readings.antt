@@ -3,7 +3,7 @@ use Prim.Native.Nat.{ℕ}
 use mathlib.Core.Path.{◌≡◌, refl, sym, ap, ◌∙◌}
 use mathlib.Core.Bool.{Bool, true, false, cond, true≢false, false≢true}
 use lib.Dec.{eqb}
-use borrow.Author.Tests.{eqb-true}
+use borrow.Author.Tests.{eqb-true, eqb-false}
 use Rattle.std.specs.Prelude.{is_err}
 use Rattle.std.specs.declared.result.Result.{Result}
 use Rattle.std.specs.declared.result.Result.TheVariants.{Ok, Err}
@@ -29,10 +29,21 @@ module _ {A : Type 0} where
   told-accepted (Ok value) e = refl
   told-accepted (Err refusal) e = absurd (true≢false e)
 
-  -- a refusal's number is the font's, and is not 0
-  pub read-refused : (number : ℕ) (answer : Result A Refusal) (refusal : Refusal) → returned answer ≡ number → answer ≡ Err refusal
+  -- of an answer that tells the font's number a refusal's number is the font's, and is not 0
+  pub told-number : (number : ℕ) (answer : Result A Refusal) (refusal : Refusal) → returned answer ≡ number → answer ≡ Err refusal
       → (number_of refusal ≡ number) × (number_of refusal ≡ 0 → ⊥)
-  read-refused number answer refusal told is = (sym (ap returned is) ∙ told, number-not-0 refusal)
+  told-number number answer refusal told is = (sym (ap returned is) ∙ told, number-not-0 refusal)
+
+  -- so of what a number answers, where it is a refusal's number if it is not 0
+  pub read-refused : (number : ℕ) (value : A) (refusal : Refusal) → ((number ≡ 0 → ⊥) → number_of (refusal_of number) ≡ number)
+      → answered number value ≡ Err refusal → (number_of refusal ≡ number) × (number_of refusal ≡ 0 → ⊥)
+  unfolding answered
+  read-refused number value refusal known = either (eqb number 0) refl
+    where
+      either : (t : Bool) → eqb number 0 ≡ t → cond t (Ok value) (Err (refusal_of number)) ≡ Err refusal
+          → (number_of refusal ≡ number) × (number_of refusal ≡ 0 → ⊥)
+      either true e is = absurd (true≢false (ap accepts is))
+      either false e is = told-number number _ refusal (known (eqb-false number 0 e)) is
 
   pub read-accepted : (number : ℕ) (value v : A) → answered number value ≡ Ok v → (number ≡ 0) × (v ≡ value)
   unfolding answered

@@ -22,7 +22,7 @@ Clears mode = (mask : ℕ) → clearing (effect_of mode mask) ≡ erase_of mask
 module _ (face : Face) (k : Stroke) (i : ℕ) where
   -- by Paint and Erase
   module _ (settles : Clears k.mode) where
-    picture-cleared : (pen : Pen) (g : Glyph)
+    pub picture-cleared : (pen : Pen) (g : Glyph)
         → clearing (picture_effect face.dot k pen g i) ≡ picture_effect face.dot (erasing k) pen g i
     unfolding picture_effect erasing mask_at mask_from mark
     picture-cleared pen g = settles (mask_at face.dot k pen g i)

@@ -5,7 +5,8 @@ use mathlib.Core.Bool.{Bool, true, false, cond}
 use mathlib.Core.List.{List}
 use lib.ListN.{length}
 use Rattle.words.specs.declared.Effect.{Effect}
-use Rattle.words.specs.declared.Mode.TheVariants.{Erase, Invert}
+use Rattle.words.specs.declared.Mode.{Mode}
+use Rattle.words.specs.declared.Mode.TheVariants.{Paint, Erase, Invert}
 use Rattle.words.specs.Effect.{cleared}
 use Rattle.words.proofs.Altering.{AllWords, altered-length}
 use Rattle.fonts.specs.declared.Glyph.{Glyph}
@@ -13,11 +14,11 @@ use Rattle.fonts.specs.Face.{Face, dot_of}
 use Rattle.paint.specs.declared.Stroke.{Stroke}
 use Rattle.paint.specs.declared.Pen.{Pen}
 use Rattle.paint.specs.Pen.{Drawable, erasing, stroke_words, on_panel, kept_if, picture_effect, label_effect}
-use Rattle.paint.specs.Reach.{shared, reach_over, reach_of, rows_drawn}
+use Rattle.paint.specs.Reach.{shared, reach_over, reach_of, rows_drawn, rows_kept}
 use Rattle.paint.specs.declared.Reach.{Reach}
 use Rattle.paint.proofs.Drawing.{nothing-drawn, stays}
-use Rattle.paint.proofs.Reaching.{flip-drawn}
-use Rattle.paint.proofs.Keeping.{Clears, keep-erased, keep-stays, erasing-drawable}
+use Rattle.paint.proofs.Reaching.{flip-drawn, keep-drawn}
+use Rattle.paint.proofs.Keeping.{Clears, picture-cleared, keep-erased, keep-stays, erasing-drawable}
 
 -- both cases
 pub kept-if : (t : Bool) (effect : ℕ → Effect) (k : Stroke) (lent after : List ℕ)
@@ -46,14 +47,45 @@ reach-erasing : (g : Glyph) (k : Stroke) (pen : Pen) → reach_of g (erasing k) 
 unfolding erasing reach_of shared reach_over
 reach-erasing g k pen = refl
 
+-- Paint and Erase clear as Erase does, and so do the loops
+clears-by : (mode : Mode) → (mode ≡ Invert → ⊥) → Clears mode
+clears-by Paint not mask = refl
+clears-by Erase not mask = refl
+clears-by Invert not mask = absurd (not refl)
+
+kept-by : (font : List ℕ) (r : Reach) (lent : List ℕ) (mode : Mode) → (mode ≡ Invert → ⊥)
+    → rows_drawn font r Erase r.rows lent ≡ rows_kept font r mode lent
+unfolding rows_kept
+kept-by font r lent Paint not = refl
+kept-by font r lent Erase not = refl
+kept-by font r lent Invert not = absurd (not refl)
+
+module _ (font : List ℕ) (pen : Pen) (g : Glyph) (all : AllWords font) (behind : 1 ≤ g.bitmap) (lent : List ℕ) (words : AllWords lent) where
+  settled-by : (k : Stroke) → (k.mode ≡ Invert → ⊥) → Drawable k (length lent)
+      → rows_drawn font (reach_of g k pen) Erase (reach_of g k pen).rows lent
+      ≡ on_panel (picture_effect (dot_of font) (erasing k) pen g) k lent
+  settled-by k not drawable =
+      let face : Face = record { glyph = λ c. g; dot = dot_of font } in
+      kept-by font (reach_of g k pen) lent k.mode not
+      ∙ keep-drawn font k pen g all behind lent words drawable
+      ∙ (λ t. on_panel (λ i. picture-cleared face k i (clears-by k.mode not) pen g t) k lent)
+
 module _ (font : List ℕ) (k : Stroke) (pen : Pen) (g : Glyph) (all : AllWords font) (behind : 1 ≤ g.bitmap)
     (lent : List ℕ) (words : AllWords lent) (drawable : Drawable k (length lent)) where
   pub settled : rows_drawn font (reach_of g k pen) Erase (reach_of g k pen).rows lent
       ≡ on_panel (picture_effect (dot_of font) (erasing k) pen g) k lent
   unfolding erasing
-  settled =
-      (λ t. rows_drawn font (sym (reach-erasing g k pen) t) Erase (sym (reach-erasing g k pen) t).rows lent)
-      ∙ flip-drawn font (erasing k) pen g all behind lent words (erasing-drawable k (erasing k) (length lent) refl drawable)
+  settled = by_mode k.mode refl
+    where
+      by_mode : (mode : Mode) → k.mode ≡ mode
+          → rows_drawn font (reach_of g k pen) Erase (reach_of g k pen).rows lent
+          ≡ on_panel (picture_effect (dot_of font) (erasing k) pen g) k lent
+      by_mode Paint is = settled-by font pen g all behind lent words k (λ inverts. cc) drawable
+      by_mode Erase is = settled-by font pen g all behind lent words k (λ inverts. cc) drawable
+      by_mode Invert is =
+          (λ t. rows_drawn font (sym (reach-erasing g k pen) t) Erase (sym (reach-erasing g k pen) t).rows lent)
+          ∙ settled-by font pen g all behind lent words (erasing k) (λ inverts. cc)
+          (erasing-drawable k (erasing k) (length lent) refl drawable)
 
 -- ---- what the loops draw of a picture's reach is the picture, on flip and on keep
 

@@ -47,6 +47,15 @@ good-number s lent = one-rule (bad_panel s lent)
     one-rule true e = absurd (omega arith)
     one-rule false e = refl
 
+-- and what any other number promises
+pub bad-number : (s : Shape) (lent : List ℕ) (n : ℕ) → n ≡ panel_number s lent → (n ≡ 0 → ⊥) → (n ≡ 8) × (bad_panel s lent ≡ true)
+unfolding panel_number first_of
+bad-number s lent n = one-rule (bad_panel s lent)
+  where
+    one-rule : (t : Bool) → n ≡ cond t 8 0 → (n ≡ 0 → ⊥) → (n ≡ 8) × (t ≡ true)
+    one-rule true e some = (e, refl)
+    one-rule false e some = absurd (some e)
+
 -- the shorter of two slices decides for both
 short-or : (a b n : ℕ) (s t : Bool) → ltb a n ≡ s → ltb b n ≡ t → ltb (min a b) n ≡ (s || t)
 short-or a b n true t p q = let less = ltb-true a n p in lt-ltb (min a b) n (omega arith)

@@ -3,9 +3,7 @@
 use mathlib.Core.Path.{◌≡◌, refl, sym, ap, ap₂, ◌∙◌}
 use mathlib.Core.Bool.{Bool, true, false, cond, false≢true}
 use mathlib.Core.Logic.{◌↔◌}
-use Rattle.std.specs.Prelude.{IsTrue, Result, Ok, Err, Some, is_ok, IfOk}
-use Rattle.std.specs.Result.{result_ok}
-use Rattle.reading.specs.declared.ReadFailed.{ReadFailed}
+use Rattle.std.specs.Prelude.{IsTrue, is_ok}
 use mathlib.Core.List.{List, []}
 use Prim.Native.Nat.{ℕ}
 use contract.Lifetimes.{Lfts}
@@ -21,6 +19,7 @@ use Rattle.preview.specs.Line.{Dots, counted}
 use Rattle.preview.specs.Lines.{zeros, ended, lines_of, after_lines}
 use Rattle.preview.proofs.help.is_asked as is-asked
 use Rattle.preview.proofs.input.first_of as first_of
+use Rattle.preview.proofs.input.unread as unread
 use Rattle.preview.proofs.label.line_of as Line-of
 use Rattle.preview.proofs.label.text_of as text_of
 use Rattle.preview.proofs.number.decimal as decimal
@@ -65,6 +64,9 @@ pub text-of-one : (κs : Lfts 1) (a : Dens κs text_of.Kinds.ps) (r o : (res_t t
     → text_of.Reads.Post κs a r e → text_of.Reads.Post κs a o e' → r.now ≡ o.now
 text-of-one κs a r o e e' p q = p ∙ sym q
 
+pub unread-one : OneReply 0 unread.Kinds.ps unread.Kinds.r unread.Reads.Post
+unread-one κs a r o e e' p q = p ∙ sym q
+
 pub first-of-one : (κs : Lfts 1) (a : Dens κs first_of.Kinds.ps) (r o : (res_t first_of.Kinds.r κs).Denot)
     (e e' : AtExit (ended_of 1 first_of.Kinds.ps first_of.Kinds.r) κs)
     → first_of.Reads.Post κs a r e → first_of.Reads.Post κs a o e' → r.now ≡ o.now
@@ -72,16 +74,8 @@ first-of-one κs a r o e e' p q = p ∙ sym q
 
 -- ---- painting
 
-same_told : (r o : Result (List ℕ) ReadFailed) (counts counts' : List ℕ)
-    → IfOk r (λ told. told ≡ counts) → IfOk o (λ told. told ≡ counts')
-    → is_ok r ≡ is_ok o → counts ≡ counts' → result_ok r ≡ result_ok o
-same_told (Ok told) (Ok told') counts counts' p q same e = ap Some (p ∙ e ∙ sym q)
-same_told (Ok told) (Err failed) counts counts' p q same e = absurd (false≢true (sym same))
-same_told (Err failed) (Ok told) counts counts' p q same e = absurd (false≢true same)
-same_told (Err failed) (Err failed') counts counts' p q same e = refl
-
--- where the same bytes were read and the reads went as well: the same panel is left, and the same counts are answered, if any are, whatever
--- the runtime that the messages are said by and the reader that the lines come from
+-- where the same bytes were read and the reads went as well: the same panel is left, and the same counts are answered, whatever the runtime
+-- that the messages are said by and the reader that the lines come from
 module _ (runtime reader : RattleType) (laws : Laws runtime) (reader_laws : Laws reader)
     (eprint : Eprint.Ghosts runtime.Denot) (dict : Dict) (read : Read.Ghosts reader.Denot) (read_dict : Dict) where
   pub paint-lines-one : (κs : Lfts 6) (a : Dens κs (paint-lines.Kinds.ps runtime reader laws reader_laws))
@@ -90,7 +84,7 @@ module _ (runtime reader : RattleType) (laws : Laws runtime) (reader_laws : Laws
       (ended_of 6 (paint-lines.Kinds.ps runtime reader laws reader_laws) (paint-lines.Kinds.r runtime reader laws reader_laws)) κs)
       (p : paint-lines.Reads.Post runtime reader laws reader_laws eprint dict read read_dict κs a r e)
       (q : paint-lines.Reads.Post runtime reader laws reader_laws eprint dict read read_dict κs a o e')
-      → is_ok r ≡ is_ok o → p.read ≡ q.read → (result_ok r ≡ result_ok o) × (e.1.1.1.0.now ≡ e'.1.1.1.0.now)
+      → is_ok r.read ≡ is_ok o.read → p.read ≡ q.read → (r.counts ≡ o.counts) × (e.1.1.1.0.now ≡ e'.1.1.1.0.now)
   paint-lines-one κs a r o e e' p q same-reply same_bytes =
       let dots =
       p.paints
@@ -100,4 +94,4 @@ module _ (runtime reader : RattleType) (laws : Laws runtime) (reader_laws : Laws
       same-reply
       same_bytes
       ∙ sym q.paints in
-      (same_told r o _ _ p.told q.told same-reply (ap (λ (d : Dots). d.counts) dots), ap (λ (d : Dots). d.panel) dots)
+      (ap (λ (d : Dots). d.counts) dots, ap (λ (d : Dots). d.panel) dots)

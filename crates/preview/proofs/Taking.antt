@@ -183,13 +183,14 @@ module _ (font : List ℕ) (s : Shape) (panel₀ : List ℕ) where
         }
 
     -- a read failed
-    pub read-in-part : (failed : ReadFailed) → Painted font s panel₀ (Err failed) panel
-    read-in-part failed = record { read = reading.read; bytes = reading.bytes; counts = so_far.counts; told = tt; paints = reading.paints }
+    pub read-in-part : (failed : ReadFailed) → failed.bytes ≡ 0
+        → Painted font s panel₀ (record { counts = so_far.counts; read = Err failed }) panel
+    read-in-part failed none = record { read = reading.read; bytes = reading.bytes; paints = reading.paints; unread = none }
 
     -- the last line is painted too
     pub read_whole : (line panel' counts : List ℕ) → line ≡ so_far.line.kept
         → counted panel' counts ≡ after_line font s line (dots_of panel so_far)
-        → Painted font s panel₀ (Ok counts) panel'
+        → Painted font s panel₀ (record { counts = counts; read = Ok tt }) panel'
     unfolding lines_of after_lines
     read_whole line panel' counts is painted =
         let read = reading.read in
@@ -197,13 +198,12 @@ module _ (font : List ℕ) (s : Shape) (panel₀ : List ℕ) where
         record {
           read = read;
           bytes = reading.bytes;
-          counts = counts;
-          told = refl;
           paints =
               painted
               ∙ ap₂ (after_line font s) (is ∙ reading.keeps) reading.paints
               ∙ kept-paints font s (unended [] read) (after_lines font s (ended [] read) first)
               ∙ sym (painted-on font s (ended [] read) (unended [] read ∷ []) first);
+          unread = tt;
         }
 
 pub ruleset byte_by_byte = (all_left, all-taken)

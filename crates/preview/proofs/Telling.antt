@@ -1,6 +1,6 @@
 -- What is told of a strip is how many of its dots are lit in the picture, and that is the picture that there is without counts.
 use Prim.Native.Nat.{ℕ, ◌<◌}
-use mathlib.Core.Path.{◌≡◌, refl, sym, ap, subst, ◌∙◌}
+use mathlib.Core.Path.{◌≡◌, refl, ap, ◌∙◌}
 use mathlib.Core.Bool.{false, cond}
 use mathlib.Core.List.{List, [], ◌∷◌}
 use lib.ListN.{length}
@@ -11,8 +11,8 @@ use Rattle.paint.specs.Label.{call_of}
 use Rattle.counts.specs.Lit.{TrueCounts}
 use Rattle.counts.specs.Calls.{painting, plain_number, plain_after}
 use Rattle.counts.proofs.Truth.{true-call, zeros-true}
-use Rattle.std.specs.Prelude.{Result, Ok, Err, is_ok, IfOk}
-use Rattle.reading.specs.declared.ReadFailed.{ReadFailed}
+use Rattle.std.specs.Prelude.{is_ok}
+use Rattle.preview.specs.declared.painting.Answer.{Answer}
 use Rattle.preview.specs.declared.label.Line.{Line}
 use Rattle.preview.specs.declared.label.Line.TheVariants.{Label, Passed, Other}
 use Rattle.preview.specs.Line.{line_of, text_of, Dots, counted, painted, after_line, plain_painted, plain_line}
@@ -50,29 +50,19 @@ module _ (font : List ℕ) (s : Shape) where
       let more = lines_same lines (after_line font s line dots) one.holds in
       record { holds = more.holds; shows = more.shows ∙ ap (plain_lines font s lines) one.shows }
 
--- what holds of the counts that are left holds of those that are answered
-answered-counts : (answer : Result (List ℕ) ReadFailed) (counts : List ℕ) (P : List ℕ → Type 0) → IfOk answer (λ told. told ≡ counts)
-    → P counts → IfOk answer P
-answered-counts (Ok told) counts P e p = subst P (sym e) p
-answered-counts (Err failed) counts P e p = e
-
 -- all lines, painted on a dark panel of a shape that is not refused
-module _ {font : List ℕ} {s : Shape} {panel after : List ℕ} {answer : Result (List ℕ) ReadFailed} (all : Painted font s panel answer after)
+module _ {font : List ℕ} {s : Shape} {panel after : List ℕ} {answer : Answer} (all : Painted font s panel answer after)
     (room : bad_panel s (length panel ∷ []) ≡ false) (dark : (i : ℕ) → i < panel_words s → word panel i ≡ 0) where
   -- those that are painted
   abbrev pub lines : List (List ℕ)
-  lines = cond (is_ok answer) (lines_of all.read) (ended [] all.read)
+  lines = cond (is_ok answer.read) (lines_of all.read) (ended [] all.read)
 
-  same : Same s (counted after all.counts) (plain_lines font s lines panel)
+  same : Same s (counted after answer.counts) (plain_lines font s lines panel)
   same = rw all.paints (lines_same font s lines (counted panel zeros) (zeros-true s panel room dark))
 
-  -- each count is its strip's lit dots
-  pub told-lit : TrueCounts s after all.counts
+  -- each count that is answered is its strip's lit dots, after a read that failed too
+  pub told-lit : TrueCounts s after answer.counts
   told-lit = same.holds
-
-  -- so is each count that is answered
-  pub answered-lit : IfOk answer (TrueCounts s after)
-  answered-lit = answered-counts answer all.counts (TrueCounts s after) all.told told-lit
 
   -- and the panel is the one that the lines paint where no counts are kept
   pub shown-plain : after ≡ plain_lines font s lines panel

@@ -1,7 +1,8 @@
 -- The lines of what is read, by docs/PROGRAMS.md, "preview": "A line ends at a newline; the last one may have none."
-use Rattle.std.specs.Prelude.{ℕ, ◌<◌, ◌≡◌, cond, List, [], ◌∷◌, ◌++◌, eqb, get_or, replicate, Result, is_ok, IfOk}
+use Rattle.std.specs.Prelude.{ℕ, ◌<◌, ◌≡◌, cond, List, [], ◌∷◌, ◌++◌, eqb, get_or, replicate, is_ok, IfErr}
 use Rattle.reading.specs.declared.ReadFailed.{ReadFailed}
 use Rattle.paint.specs.declared.Shape.{Shape}
+use Rattle.preview.specs.declared.painting.Answer.{Answer}
 use Rattle.preview.specs.declared.painting.Progress.{Progress}
 use Rattle.preview.specs.Begun.{Begun, first_line, next_line, longer_line}
 use Rattle.preview.specs.Line.{Dots, counted, after_line, plain_line}
@@ -39,16 +40,18 @@ Bytes numbers = (i : ℕ) → get_or numbers i 0 < 256
 abbrev pub zeros : List ℕ
 zeros = replicate 32 0
 
+-- a read that failed, and of which no byte is there
+abbrev pub nothing_read : ReadFailed
+nothing_read = record { bytes = 0 }
+
 -- What painting all lines leaves, with counts that are zeros at first: for the bytes that were read, which no contract can name, all of
--- their lines are painted where every read went well; else those that had ended. Where every read went well, the counts that they leave
--- are answered.
-pub record Painted (font : List ℕ) (s : Shape) (panel : List ℕ) (answer : Result (List ℕ) ReadFailed) (after : List ℕ) : Type 0 where
+-- their lines are painted where every read went well; else those that had ended. The counts that are answered are those that they leave.
+pub record Painted (font : List ℕ) (s : Shape) (panel : List ℕ) (answer : Answer) (after : List ℕ) : Type 0 where
   pub read : List ℕ
   pub bytes : Bytes read
-  pub counts : List ℕ
-  pub told : IfOk answer (λ told. told ≡ counts)
-  pub paints : counted after counts
-      ≡ after_lines font s (cond (is_ok answer) (lines_of read) (ended [] read)) (counted panel zeros)
+  pub paints : counted after answer.counts
+      ≡ after_lines font s (cond (is_ok answer.read) (lines_of read) (ended [] read)) (counted panel zeros)
+  pub unread : IfErr answer.read (λ failed. failed.bytes ≡ 0)
 
 -- ---- the line that is being read
 

@@ -1,5 +1,6 @@
 // The help text, and the argument that asks for it.
-ghost use Rattle.std.specs.Prelude.{IsTrue, ◌↔◌};
+ghost use Rattle.std.specs.Prelude.{◌≡◌, IsTrue, IfErr, ◌↔◌};
+ghost use Rattle.preview.specs.declared.message.Failure.TheVariants.{Unwritten};
 ghost use Rattle.preview.specs.Help.{HelpAsked};
 
 use crate::message::Failure;
@@ -11,7 +12,9 @@ pub fn is_asked(count: usize, first: &[u8]) -> bool
     count == 2 && first == b"--help".as_slice()
 }
 
-pub fn print(rt: &impl Print) -> Result<(), Failure> {
+pub fn print(rt: &impl Print) -> Result<(), Failure>
+    ensures { IfErr result (λ failure. failure ≡ Unwritten) }
+{
     rt.print(
         "usage: preview [--counts] FONT R H W < LINES > PICTURE
 

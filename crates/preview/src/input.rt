@@ -2,6 +2,7 @@
 ghost use Rattle.std.specs.Prelude.{◌≡◌, take, IfOk, IfErr};
 ghost use Rattle.std.specs.Io.KnownBytes.{Consumes, IsAtEnd};
 ghost use Rattle.reading.specs.Counts.{IsPrefixLen, bytes_read};
+ghost use Rattle.preview.specs.Lines.{nothing_read};
 
 use reading::{BYTES, ReadFailed};
 use std::env::FillError;
@@ -12,8 +13,12 @@ use std::{fs, str};
 // The most bytes that are taken of an argument: no path has more.
 pub const ARGUMENT: usize = 4_096;
 
-// Nothing was read.
-const UNREAD: ReadFailed = ReadFailed { bytes: 0 };
+// A read that failed, and of which no byte is there.
+pub fn unread() -> ReadFailed
+    ensures { result ≡ nothing_read }
+{
+    ReadFailed { bytes: 0 }
+}
 
 // The first bytes of a buffer. A callee that takes the array needs no proof of its length.
 pub fn first_of(bytes: &[u8; BYTES], count: usize) -> &[u8]
@@ -29,14 +34,14 @@ pub fn read_some<R: Read>(from: &mut R, bytes: &mut [u8; BYTES]) -> Result<usize
     ensures taken { Consumes (R.remaining from.old) (R.remaining from.new) (take (bytes_read result) bytes.new) }
     ensures over { IfOk result (λ count. count ≡ 0 → IsAtEnd (R.remaining from.new)) }
 {
-    from.read(bytes).map_err(|_| ReadFailed { bytes: 0 })
+    from.read(bytes).map_err(|_| unread())
 }
 
 pub fn read_file(rt: &impl Files, path: &[u8], space: &mut [u8; BYTES]) -> Result<usize, ReadFailed>
     ensures { IsPrefixLen (bytes_read result) space.new }
 {
-    let name = str::from_utf8(path).map_err(|_| UNREAD)?;
-    let mut file = fs::open(rt, name).map_err(|_| UNREAD)?;
+    let name = str::from_utf8(path).map_err(|_| unread())?;
+    let mut file = fs::open(rt, name).map_err(|_| unread())?;
     reading::read(&mut file, space)
 }
 

@@ -43,11 +43,10 @@ fn run(rt: &(impl Input + Print + Eprint), font: &[u16], s: Shape) -> Result<[u3
     let mut panel = [0u16; PANEL];
     paint::check_panel(s, panel.len()).map_err(Failure::PanelRefused)?;
     let painter = Painter { font, s };
-    let counts = painting::paint_lines(rt, &mut rt.reader(), painter, &mut panel).map_err(
-        |_| Failure::Unread,
-    )?;
+    let answer = painting::paint_lines(rt, &mut rt.reader(), painter, &mut panel);
+    answer.read.map_err(|_| Failure::Unread)?;
     print(rt, s, &panel)?;
-    Ok(counts)
+    Ok(answer.counts)
 }
 
 // The same with the bytes of a font.

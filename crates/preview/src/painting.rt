@@ -4,7 +4,7 @@ ghost use Rattle.preview.specs.Begun.{first_line, next_line, longer_line};
 ghost use Rattle.preview.specs.Line.{counted, after_line};
 ghost use Rattle.preview.specs.Lines.{Bytes, Painted, first_progress, Taken};
 
-use crate::input::{first_of, read_some};
+use crate::input::{first_of, read_some, unread};
 use crate::label::{LONGEST, Line, line_of, text_of};
 use crate::message::{say, say_reply};
 use paint::Shape;
@@ -72,6 +72,13 @@ impl Begun {
             self.count += 1;
         }
     }
+}
+
+// What painting all lines answers: the lit dots of the strips, after a read that failed too, and whether every read went well.
+#[derive(Clone, Copy)]
+pub struct Answer {
+    pub counts: [u32; 32],
+    pub read: Result<(), ReadFailed>,
 }
 
 // How far the lines are read: the line that is being read, and the lit dots of the strips as the lines before it have left them.
@@ -160,18 +167,33 @@ pub fn paint_lines(
     from: &mut impl Read,
     painter: Painter,
     panel: &mut [u16],
-) -> Result<[u32; 32], ReadFailed>
+) -> Answer
     ensures { Painted painter.entry.font.now painter.entry.s panel.old result panel.new }
 {
     let mut bytes = [0u8; BYTES];
     let mut so_far = Progress::first();
     for _ in 0..u64::MAX {
-        let count = read_some(from, &mut bytes)?;
+        let counts = so_far.counts;
+        let count = match read_some(from, &mut bytes) {
+            Ok(count) => count,
+            Err(failed) => {
+                return Answer {
+                    counts,
+                    read: Err(failed),
+                };
+            }
+        };
         if count == 0 {
             let last = &so_far.line;
-            return Ok(painter.paint_line(rt, last.kept(), last.number, panel, so_far.counts));
+            return Answer {
+                counts: painter.paint_line(rt, last.kept(), last.number, panel, counts),
+                read: Ok(()),
+            };
         }
         painter.take_bytes(rt, first_of(&bytes, count), &mut so_far, panel);
     }
-    Err(ReadFailed { bytes: 0 })
+    Answer {
+        counts: so_far.counts,
+        read: Err(unread()),
+    }
 }

@@ -18,11 +18,11 @@ use Rattle.replay.proofs.names.Command.numbers as numbers
 use Rattle.replay.proofs.list.Line.empty as empty-line
 use Rattle.replay.proofs.list.Line.number as number
 use Rattle.replay.proofs.list.Line.signed as signed
+use Rattle.replay.proofs.list.Values.as_slice as values
 use Rattle.replay.proofs.label_calls.shape as shape
 use Rattle.replay.proofs.label_calls.label as label
 use Rattle.replay.proofs.registers.Registers.empty as no-registers
 use Rattle.replay.proofs.registers.Slices.chosen as chosen
-use Rattle.replay.proofs.registers.Slices.chosen_mut as chosen-mut
 use Rattle.replay.proofs.registers.Registers.set as set
 use Rattle.replay.proofs.registers.Registers.keep_written as keep-written
 use Rattle.replay.proofs.registers.Registers.font_from_written as font-from-written
@@ -87,17 +87,17 @@ no-registers-one κs a r o e e' p q = p ∙ sym q
 pub text-one : OneReply 1 text.Kinds.ps text.Kinds.r text.Reads.Post
 text-one κs a r o e e' p q = ap holds (p ∙ sym q)
 
+pub values-one : (κs : Lfts 1) (a : Dens κs values.Kinds.ps) (r o : (res_t values.Kinds.r κs).Denot)
+    (e e' : AtExit (ended_of 1 values.Kinds.ps values.Kinds.r) κs)
+    → values.Reads.Post κs a r e → values.Reads.Post κs a o e'
+    → r.now ≡ o.now
+values-one κs a r o e e' p q = p ∙ sym q
+
 pub chosen-one : (κs : Lfts 1) (a : Dens κs chosen.Kinds.ps) (r o : (res_t chosen.Kinds.r κs).Denot)
     (e e' : AtExit (ended_of 1 chosen.Kinds.ps chosen.Kinds.r) κs)
     → chosen.Reads.Post κs a r e → chosen.Reads.Post κs a o e'
     → r.now ≡ o.now
 chosen-one κs a r o e e' p q = p ∙ sym q
-
-pub chosen-mut-one : (κs : Lfts 1) (a : Dens κs chosen-mut.Kinds.ps) (r o : (res_t chosen-mut.Kinds.r κs).Denot)
-    (e e' : AtExit (ended_of 1 chosen-mut.Kinds.ps chosen-mut.Kinds.r) κs)
-    → chosen-mut.Reads.Post κs a r e → chosen-mut.Reads.Post κs a o e'
-    → r.now ≡ o.now
-chosen-mut-one κs a r o e e' p q = p ∙ sym q
 
 pub set-one : (κs : Lfts 2) (a : Dens κs set.Kinds.ps) (r o : (res_t set.Kinds.r κs).Denot)
     (e e' : AtExit (ended_of 2 set.Kinds.ps set.Kinds.r) κs)
@@ -117,8 +117,8 @@ pub font-from-written-one : (κs : Lfts 1) (a : Dens κs font-from-written.Kinds
     → e.0.now ≡ e'.0.now
 font-from-written-one κs a r o e e' p q = p ∙ sym q
 
--- What waits to be written, and every register that is lent as it stands, whatever the runtime that the text is written by. A sheet that
--- `fresh` and `gather` alter is lent to them by a part that is handed back, and no contract says what becomes of what is behind such a part.
+-- What waits to be written, and every register that a call alters, whatever the runtime that the text is written by; of a whole line what
+-- waits.
 module _ (runtime : RattleType) (laws : Laws runtime) (print : Ghosts runtime.Denot) (dict : Dict) where
   pub flush-one : (κs : Lfts 3) (a : Dens κs (flush.Kinds.ps runtime laws))
       (r o : (res_t (flush.Kinds.r runtime laws) κs).Denot)
@@ -229,15 +229,15 @@ module _ (runtime : RattleType) (laws : Laws runtime) (print : Ghosts runtime.De
       (r o : (res_t (fresh.Kinds.r runtime laws) κs).Denot)
       (e e' : AtExit (ended_of 5 (fresh.Kinds.ps runtime laws) (fresh.Kinds.r runtime laws)) κs)
       → fresh.Reads.Post runtime laws print dict κs a r e → fresh.Reads.Post runtime laws print dict κs a o e'
-      → e.1.1.0.now ≡ e'.1.1.0.now
-  fresh-one κs a r o e e' p q = p ∙ sym q
+      → (e.1.1.0.now ≡ e'.1.1.0.now) × (e.1.0.now ≡ e'.1.0.now)
+  fresh-one κs a r o e e' p q = (p.0 ∙ sym q.0, p.1 ∙ sym q.1)
 
   pub gather-one : (κs : Lfts 5) (a : Dens κs (gather.Kinds.ps runtime laws))
       (r o : (res_t (gather.Kinds.r runtime laws) κs).Denot)
       (e e' : AtExit (ended_of 5 (gather.Kinds.ps runtime laws) (gather.Kinds.r runtime laws)) κs)
       → gather.Reads.Post runtime laws print dict κs a r e → gather.Reads.Post runtime laws print dict κs a o e'
-      → e.1.1.0.now ≡ e'.1.1.0.now
-  gather-one κs a r o e e' p q = p ∙ sym q
+      → (e.1.1.0.now ≡ e'.1.1.0.now) × (e.1.0.now ≡ e'.1.0.now)
+  gather-one κs a r o e e' p q = (p.0 ∙ sym q.0, p.1 ∙ sym q.1)
 
   pub join-one : (κs : Lfts 5) (a : Dens κs (join.Kinds.ps runtime laws))
       (r o : (res_t (join.Kinds.r runtime laws) κs).Denot)

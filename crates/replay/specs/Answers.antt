@@ -1,5 +1,6 @@
 -- The line that each call answers, by the table of docs/REPLAY.md: what is put into the text.
-use Rattle.std.specs.Prelude.{◌≡◌, ℕ, Bool, false, cond, List, [], ◌∷◌, ◌++◌, length, Option, Some, None, codes, pos, ◌-ℤ◌, Result, Ok, Err}
+use Rattle.std.specs.Prelude.{◌≡◌, ℕ, Bool, false, cond, List, [], ◌∷◌, ◌++◌, length, eqb, Option, Some, None, codes, pos, ◌-ℤ◌}
+use Rattle.std.specs.Prelude.{Result, Ok, Err}
 use Rattle.words.specs.declared.refusal.Refusal.{Refusal}
 use Rattle.fonts.specs.declared.Glyph.{Glyph}
 use Rattle.fonts.specs.declared.View.{View}
@@ -7,7 +8,8 @@ use Rattle.fonts.specs.Reading.{font_number, reading_of}
 use Rattle.fonts.specs.Face.{glyph_from, dots_of, row_of}
 use Rattle.paint.specs.Sheet.{Sheet, sheet_of}
 use Rattle.paint.specs.Label.{reply_of, measure_of, paint_after}
-use Rattle.sheets.specs.Sheet.{fresh_number, join_number, join_after, apply_number, apply_after, gather_reply}
+use Rattle.sheets.specs.Sheet.{fresh_number, fresh_after, join_number, join_after, apply_number, apply_after}
+use Rattle.sheets.specs.Sheet.{gather_reply, gather_after}
 use Rattle.counts.specs.declared.Painted.{Painted}
 use Rattle.counts.specs.Lit.{Counted}
 use Rattle.counts.specs.Calls.{paint_counted, painted_of, apply_counted, clear_counted}
@@ -23,7 +25,7 @@ use Rattle.replay.specs.declared.registers.Registers.{Registers}
 use Rattle.replay.specs.declared.text.Digits.{Digits}
 use Rattle.replay.specs.declared.text.Digits.TheVariants.{Two, Four}
 use Rattle.replay.specs.Names.{register_named}
-use Rattle.replay.specs.Lines.{number_of, signed_of}
+use Rattle.replay.specs.Lines.{values_of, number_of, signed_of}
 use Rattle.replay.specs.Registers.{chosen, holds, slices, registers, registers_with, registers_reading, registers_written, with_counts}
 use Rattle.replay.specs.Text.{name_bytes, number_bytes, signed_bytes, value_bytes, list_bytes}
 use Rattle.replay.specs.Calls.{shape_of, text_of, gather_call, paint_call, reply_bytes, counts_in, count_words}
@@ -108,9 +110,12 @@ refusal_bytes word number = word ++ (number_bytes number ++ (10 ∷ []))
 abbrev pub sheet_in : Slices → Sheet
 sheet_in slices = sheet_of slices.keep.items slices.flip.items
 
--- sheet S of a line
+-- sheet S
+abbrev pub sheet_number : ℕ → Registers → Sheet
+sheet_number number r = sheet_in (chosen number r.one r.two)
+
 abbrev pub line_sheet : Line → Registers → Sheet
-line_sheet line r = sheet_in (chosen (number_of line 0) r.one r.two)
+line_sheet line r = sheet_number (number_of line 0) r
 
 unfoldable pub fresh_answer : Line → Registers → List ℕ
 fresh_answer line r = refusal_bytes (codes "fresh") (fresh_number (shape_of line 1) (line_sheet line r))
@@ -122,10 +127,28 @@ gather_answer line r =
 unfoldable pub join_answer : Line → Registers → List ℕ
 join_answer line r = refusal_bytes (codes "join") (join_number (shape_of line 0) (sheet_in r.one) (sheet_in r.two))
 
+-- a sheet as a call leaves it
+abbrev pub slices_of : Sheet → Slices
+slices_of sheet = slices (holds sheet.keep) (holds sheet.flip)
+
+abbrev pub with_sheets : Slices → Slices → Registers → Registers
+with_sheets one two r = registers r.font r.cu r.panel r.out one two r.file r.counts r.written
+
+-- sheet S, which a call alters; the other stays, and so does every other register
+unfoldable pub with_sheet_number : ℕ → Sheet → Registers → Registers
+with_sheet_number number sheet r = cond (eqb number 2) (with_sheets r.one (slices_of sheet) r) (with_sheets (slices_of sheet) r.two r)
+
+unfoldable pub registers_freshened : Line → Registers → Registers
+registers_freshened line r =
+    with_sheet_number (number_of line 0) (fresh_after (shape_of line 1) (line_sheet line r)) r
+
+unfoldable pub registers_gathered : Line → Registers → Registers
+registers_gathered line r =
+    with_sheet_number (number_of line 0) (gather_after (shape_of line 1) (gather_call line r.font.items) (line_sheet line r)) r
+
 -- sheet 2 "onto sheet 1, which changes; sheet 2 stays"
 abbrev pub with_sheet : Sheet → Registers → Registers
-with_sheet sheet r =
-    registers r.font r.cu r.panel r.out (slices (holds sheet.keep) (holds sheet.flip)) r.two r.file r.counts r.written
+with_sheet sheet r = with_sheets (slices_of sheet) r.two r
 
 unfoldable pub registers_joined : Line → Registers → Registers
 registers_joined line r = with_sheet (join_after (shape_of line 0) (sheet_in r.one) (sheet_in r.two)) r
@@ -241,9 +264,9 @@ answer_of ApplyLit line r = apply_lit_answer line r
 answer_of Clear line r = clear_answer line r
 answer_of Other line r = []
 
--- and what the line leaves the registers as. The slices of a sheet that `fresh` and `gather` alter are not told.
+-- and what the line leaves the registers as
 unfoldable pub Leaves : Command → Line → Registers → Registers → Type 0
-Leaves (Set register) line r left = left ≡ registers_with register line.values.items r
+Leaves (Set register) line r left = left ≡ registers_with register (values_of line.values) r
 Leaves Show line r left = left ≡ r
 Leaves Written line r left = left ≡ registers_reading r
 Leaves Convert line r left = left ≡ registers_converted r
@@ -254,8 +277,8 @@ Leaves Row line r left = left ≡ r
 Leaves Measure line r left = left ≡ r
 Leaves Paint line r left = left ≡ registers_painted line r
 Leaves PaintLit line r left = left ≡ registers_lit (paint_lit line r) r
-Leaves Fresh line r left = Unit {0}
-Leaves Gather line r left = Unit {0}
+Leaves Fresh line r left = left ≡ registers_freshened line r
+Leaves Gather line r left = left ≡ registers_gathered line r
 Leaves Join line r left = left ≡ registers_joined line r
 Leaves Apply line r left = left ≡ registers_applied line r
 Leaves ApplyLit line r left = left ≡ registers_lit (apply_lit line r) r

@@ -5,7 +5,7 @@ use Rattle.paint.specs.declared.Shape.{Shape}
 use Rattle.paint.specs.declared.Label.{Label}
 use Rattle.paint.specs.Label.{Call, Reply, call_of, reply_number, reply_pen, reply_substitutes}
 use Rattle.replay.specs.declared.list.Line.{Line}
-use Rattle.replay.specs.Lines.{number_of, signed_of}
+use Rattle.replay.specs.Lines.{values_of, number_of, signed_of}
 use Rattle.replay.specs.Registers.{low_byte}
 use Rattle.replay.specs.Text.{number_bytes, signed_bytes}
 
@@ -23,7 +23,7 @@ label_of line first =
 
 -- the bytes of a label: "A label has at most 1,000 bytes"
 abbrev pub text_of : Line → List ℕ
-text_of line = map low_byte (take 1000 line.values.items)
+text_of line = map low_byte (take 1000 (values_of line.values))
 
 -- the label of `gather`, behind the sheet and the shape
 abbrev pub gather_call : Line → List ℕ → Call

@@ -1,9 +1,9 @@
 // Reading a list: the field that is being read, byte by byte, and the line that its fields make.
-ghost use Rattle.std.specs.Prelude.{◌≡◌, ◌<◌};
-ghost use Rattle.replay.specs.Lines.{empty_line, unsigned_in, signed_in, counted_of, number_of, signed_of};
+ghost use Rattle.std.specs.Prelude.{◌≡◌, ◌<◌, ◌++◌, min, replicate, IfNone};
+ghost use Rattle.replay.specs.Lines.{no_values, without_values, values_of, room_left, empty_line, cleared, IsEmpty};
+ghost use Rattle.replay.specs.Lines.{unsigned_in, signed_in, counted_of, number_of, signed_of};
 
 use crate::names::{Command, extended};
-use arrayvec::ArrayVec;
 use std::io;
 
 const INPUT: usize = 65_536;
@@ -22,8 +22,16 @@ struct Field {
     count: Option<u64>,
 }
 
+// The values of a line: the first `count` of so many words. They come and go with each line, and many at once: so they are no `ArrayVec`,
+// which takes them one by one, and writes zeros over those that go.
+#[derive(Clone, Copy)]
+pub struct Values {
+    words: [u16; VALUES],
+    count: usize,
+}
+
 // The line so far.
-#[derive(Drop)]
+#[derive(Clone, Copy)]
 pub struct Line {
     pub command: Command,
     fields: usize,
@@ -31,7 +39,7 @@ pub struct Line {
     pub name: u64,
     // The numbers behind the command.
     numbers: [i64; 8],
-    pub values: ArrayVec<u16, VALUES>,
+    pub values: Values,
 }
 
 // A list, and the bytes of it that have been read and not yet taken: those of the buffer from a place up to another.
@@ -109,6 +117,42 @@ impl Field {
     }
 }
 
+impl Values {
+    fn empty() -> Values
+        ensures { result ≡ no_values }
+    {
+        Values {
+            words: [0; VALUES],
+            count: 0,
+        }
+    }
+
+    fn clear(&mut self)
+        ensures { self.new ≡ without_values self.old }
+    {
+        self.count = 0;
+    }
+
+    // Adds a word so many times. What there is no room for is left out.
+    #[tactic(auto, unfolding(crate::specs::Lines::values_of))]
+    fn fill(&mut self, times: u64, word: u16)
+        ensures { values_of self.new ≡ values_of self.old ++ replicate (min times (room_left self.old)) word }
+    {
+        let room = self.words.len();
+        let from = self.count.min(room);
+        let end = from + times.min((room - from) as u64) as usize;
+        self.words[from..end].fill(word);
+        self.count = end;
+    }
+
+    #[tactic(auto, unfolding(crate::specs::Lines::values_of))]
+    pub fn as_slice(&self) -> &[u16]
+        ensures { result.now ≡ values_of self.now }
+    {
+        &self.words[..self.count.min(VALUES)]
+    }
+}
+
 impl Line {
     #[tactic(auto, unfolding(crate::specs::Lines::empty_line))]
     pub fn empty() -> Line
@@ -119,13 +163,13 @@ impl Line {
             fields: 0,
             name: 0,
             numbers: [0; 8],
-            values: ArrayVec::new(),
+            values: Values::empty(),
         }
     }
 
-    #[tactic(auto, unfolding(crate::specs::Lines::empty_line))]
+    #[tactic(auto, unfolding(crate::specs::Lines::cleared))]
     fn clear(&mut self)
-        ensures { self.new ≡ empty_line }
+        ensures { self.new ≡ cleared self.old }
     {
         self.command = Command::Other;
         self.fields = 0;
@@ -143,7 +187,7 @@ impl Line {
             return;
         }
         if self.has_values_at(k) {
-            self.fill(field.times(), field.word);
+            self.values.fill(field.times(), field.word);
             return;
         }
         self.name = field.name;
@@ -157,12 +201,6 @@ impl Line {
         match self.command.numbers() {
             Some(numbers) => numbers < k,
             None => false,
-        }
-    }
-
-    fn fill(&mut self, times: u64, word: u16) {
-        for _ in 0..times.min(VALUES as u64) {
-            let _ = self.values.try_push(word);
         }
     }
 
@@ -252,16 +290,27 @@ impl<R: io::Read + Drop> List<R> {
         None
     }
 
-    // Makes the line the next one of the list; none is left at its end. Turns are counted as for a field.
-    pub fn next_line(&mut self, line: &mut Line) -> Option<()> {
+    // Makes the line the next one of the list; none is left at its end, and then neither has the line a field, nor the list a byte. Turns
+    // are counted as for a field.
+    #[tactic(auto, unfolding(crate::specs::Lines::cleared))]
+    pub fn next_line(&mut self, line: &mut Line) -> Option<()>
+        ensures line { IfNone result (IsEmpty line.new) }
+        ensures from { IfNone result (self.new.from ≡ 0) }
+        ensures upto { IfNone result (self.new.upto ≡ 0) }
+    {
         line.clear();
         for _ in 0..u64::MAX {
-            let (field, end) = self.next_field()?;
+            let Some((field, end)) = self.next_field() else {
+                break;
+            };
             line.add(field);
             if end == b'\n' {
                 return Some(());
             }
         }
+        line.clear();
+        self.from = 0;
+        self.upto = 0;
         None
     }
 }

@@ -30,12 +30,16 @@ pub struct Registers {
     pub written: ArrayVec<u16, 70_000>,
 }
 
-// Makes these words the register, as far as it has room.
+// Makes these words the register, as far as it has room. Words that stay within what it held are written over those: a register that is
+// emptied first is filled with zeros.
 fn set<const N: usize>(register: &mut ArrayVec<u16, N>, words: &[u16])
     ensures { register.new.items ≡ take N words.now }
 {
-    register.clear();
-    let _ = register.try_extend_from_slice(words::part(words, 0, N));
+    let words = words::part(words, 0, N);
+    register.truncate(words.len());
+    let there = register.len();
+    register.as_mut_slice().copy_from_slice(&words[..there]);
+    let _ = register.try_extend_from_slice(&words[there..]);
 }
 
 // The same of words that stand for bytes.
@@ -75,17 +79,6 @@ impl Slices {
         ensures { result.now ≡ chosen number one.now two.now }
     {
         if number == 2 { two } else { one }
-    }
-
-    // The same, for a call that may alter it.
-    #[tactic(auto, unfolding(crate::specs::Registers::chosen))]
-    pub fn chosen_mut<'a>(number: u32, one: &'a mut Slices, two: &'a mut Slices) -> &'a mut Slices
-        ensures { result.now ≡ chosen number one.old two.old }
-    {
-        match number {
-            2 => two,
-            _ => one,
-        }
     }
 }
 

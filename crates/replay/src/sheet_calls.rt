@@ -1,14 +1,18 @@
 // The calls on sheets: fresh, gather, join, apply.
 ghost use Rattle.std.specs.Prelude.{◌≡◌};
 ghost use Rattle.words.specs.Refusal.{returned};
+ghost use Rattle.sheets.specs.Sheet.{fresh_number, fresh_after, gather_reply, gather_after};
 ghost use Rattle.replay.specs.Text.{Puts};
+ghost use Rattle.paint.specs.Label.{call_of};
 ghost use Rattle.replay.specs.Answers.{refusal_bytes, fresh_answer, gather_answer, join_answer, apply_answer};
-ghost use Rattle.replay.specs.Answers.{registers_joined, registers_applied};
+ghost use Rattle.replay.specs.Answers.{sheet_in, slices_of, sheet_number, with_sheet_number};
+ghost use Rattle.replay.specs.Answers.{registers_freshened, registers_gathered, registers_joined, registers_applied};
 
 use crate::label_calls::{label, put_reply, shape, text};
 use crate::list::Line;
 use crate::registers::{Registers, Slices};
 use crate::text::Output;
+use paint::{Label, Reply, Shape};
 use words::Refusal;
 
 // The number of a refusal; 0 where there is none.
@@ -30,30 +34,71 @@ pub fn put_outcome(word: &[u8], outcome: Result<(), Refusal>, output: &mut Outpu
     output.put(b'\n');
 }
 
-pub fn fresh(line: &Line, registers: &mut Registers, output: &mut Output<impl Print>)
-    ensures { Puts output (fresh_answer line.now registers.old) }
+impl Slices {
+    fn freshen(&mut self, s: Shape) -> Result<(), Refusal>
+        ensures value { returned result ≡ fresh_number s (sheet_in self.old) }
+        ensures slices { self.new ≡ slices_of (fresh_after s (sheet_in self.old)) }
+    {
+        let keep = self.keep.as_mut_slice();
+        let flip = self.flip.as_mut_slice();
+        sheets::fresh(s, keep, flip)
+    }
+
+    fn gather(&mut self, font: &[u16], s: Shape, l: Label, text: &[u8]) -> Reply
+        ensures value { result ≡ gather_reply s (call_of font.now l text.now) (sheet_in self.old) }
+        ensures slices { self.new ≡ slices_of (gather_after s (call_of font.now l text.now) (sheet_in self.old)) }
+    {
+        let keep = self.keep.as_mut_slice();
+        let flip = self.flip.as_mut_slice();
+        sheets::gather(font, s, l, text, keep, flip)
+    }
+}
+
+// Makes sheet `number` fresh. A sheet is chosen where it is altered: no contract says what becomes of a part that a function hands on.
+#[tactic(auto, unfolding(crate::specs::Registers::chosen, crate::specs::Answers::with_sheet_number))]
+fn fresh_sheet(number: u32, s: Shape, registers: &mut Registers) -> Result<(), Refusal>
+    ensures value { returned result ≡ fresh_number s (sheet_number number registers.old) }
+    ensures registers { registers.new ≡ with_sheet_number number (fresh_after s (sheet_number number registers.old)) registers.old }
 {
-    let sheet = Slices::chosen_mut(line.number(0), &mut registers.one, &mut registers.two);
-    let keep = sheet.keep.as_mut_slice();
-    let flip = sheet.flip.as_mut_slice();
-    let outcome = sheets::fresh(shape(line, 1), keep, flip);
+    match number {
+        2 => registers.two.freshen(s),
+        _ => registers.one.freshen(s),
+    }
+}
+
+pub fn fresh(line: &Line, registers: &mut Registers, output: &mut Output<impl Print>)
+    ensures puts { Puts output (fresh_answer line.now registers.old) }
+    ensures registers { registers.new ≡ registers_freshened line.now registers.old }
+{
+    let outcome = fresh_sheet(line.number(0), shape(line, 1), registers);
     put_outcome(b"fresh", outcome, output);
 }
 
+// Joins a label's effect onto sheet `number`.
+#[tactic(auto, unfolding(crate::specs::Registers::chosen, crate::specs::Answers::with_sheet_number))]
+fn gather_sheet(number: u32, s: Shape, l: Label, text: &[u8], registers: &mut Registers) -> Reply
+    ensures value { result ≡ gather_reply s (call_of registers.old.font.items l text.now) (sheet_number number registers.old) }
+    ensures registers { registers.new ≡ with_sheet_number number
+        (gather_after s (call_of registers.old.font.items l text.now) (sheet_number number registers.old)) registers.old }
+{
+    let font = registers.font.as_slice();
+    match number {
+        2 => registers.two.gather(font, s, l, text),
+        _ => registers.one.gather(font, s, l, text),
+    }
+}
+
 pub fn gather(line: &Line, registers: &mut Registers, output: &mut Output<impl Print>)
-    ensures { Puts output (gather_answer line.now registers.old) }
+    ensures puts { Puts output (gather_answer line.now registers.old) }
+    ensures registers { registers.new ≡ registers_gathered line.now registers.old }
 {
     let text = text(line);
-    let sheet = Slices::chosen_mut(line.number(0), &mut registers.one, &mut registers.two);
-    let keep = sheet.keep.as_mut_slice();
-    let flip = sheet.flip.as_mut_slice();
-    let reply = sheets::gather(
-        registers.font.as_slice(),
+    let reply = gather_sheet(
+        line.number(0),
         shape(line, 1),
         label(line, 4),
         text.as_slice(),
-        keep,
-        flip,
+        registers,
     );
     put_reply(b"gather", reply, output);
 }

@@ -157,17 +157,17 @@ impl<'a, P: Print> Output<'a, P> {
         ensures { Puts self (list_bytes digits (first ∷ rest.now)) }
     {
         let mut run = first;
-        let mut count = 1;
-        for &word in rest {
+        // How many words stand before the run. Counting the run itself takes a step more for each word.
+        let mut before = 0;
+        for (i, &word) in rest.iter().enumerate() {
             if word == run {
-                count += 1;
                 continue;
             }
-            self.put_run(run, digits, count);
+            self.put_run(run, digits, i + 1 - before);
             run = word;
-            count = 1;
+            before = i + 1;
         }
-        self.put_run(run, digits, count);
+        self.put_run(run, digits, rest.len() + 1 - before);
     }
 }
 

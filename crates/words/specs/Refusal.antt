@@ -1,5 +1,5 @@
 -- The refusals, their numbers and their order: the paper's "Numbers returned".
-use Rattle.std.specs.Prelude.{ℕ, Bool, cond, List, [], ◌∷◌, eqb, ltb, ◌||◌}
+use Rattle.std.specs.Prelude.{ℕ, Bool, cond, List, [], ◌∷◌, eqb, ltb, ◌||◌, codes}
 use Rattle.std.specs.declared.result.Result.{Result}
 use Rattle.std.specs.declared.result.Result.TheVariants.{Ok, Err}
 use Rattle.words.specs.declared.refusal.Refusal.{Refusal}
@@ -34,6 +34,33 @@ number_of CuSpacing = 24
 number_of CuOffset = 25
 number_of FontTooLarge = 26
 number_of OutputTooShort = 27
+
+-- what is said of each: docs/REFUSALS.md, "message"
+abbrev pub message_of : Refusal → List ℕ
+message_of OddBytes = codes "odd number of bytes"
+message_of FontTooShort = codes "font file too short for its header"
+message_of NotAStrike = codes "not a plain or kerned strike file"
+message_of FontCodes = codes "font codes out of order or over 255"
+message_of BodyCount = codes "index: number of bodies not 1 to 128"
+message_of FontSize = codes "size in the font's header out of range"
+message_of FontLength = codes "font's length is not what its header says"
+message_of Pointers = codes "font's column pointers out of order or past the bitmap"
+message_of NoPicture = codes "index: a code names no picture"
+message_of NoDummy = codes "font has no dummy character"
+message_of Panel = codes "panel size out of range, or its memory too short"
+message_of Strip = codes "strip over 31"
+message_of Start = codes "x or y not -1024 to 1023"
+message_of LongLabel = codes "label over 64 bytes"
+message_of Mode = codes "mode over 2"
+message_of LitDots = codes "lit dots of a strip out of range"
+message_of CuSize = codes "CU file too short, or its raster size out of range"
+message_of CuCutShort = codes "CU file ends inside a character"
+message_of CuCodes = codes "CU code over 255, or there twice"
+message_of CuOrigin = codes "CU file has no code 65 with a dot"
+message_of CuSpacing = codes "CU spacing too large"
+message_of CuOffset = codes "CU character too far right"
+message_of FontTooLarge = codes "font to be written too large"
+message_of OutputTooShort = codes "output memory too short"
 
 -- all of them, in the table's order
 abbrev pub every_refusal : List Refusal

@@ -2,6 +2,7 @@
 -- Assumes nothing.
 use mathlib.Core.Path.{sym, ◌∙◌}
 use Rattle.std.proofs.lemmas.Result.{err_from_is_err_and}
+use Rattle.words.proofs.Refusals.{number-not-0}
 use Rattle.fonts.specs.Strike.{view_of}
 use Rattle.fonts.specs.Reading.{font_number}
 use Rattle.fonts.proofs.Readings.{read-accepted}
@@ -21,7 +22,7 @@ returns-in_err-v c =
     let call = call_of c.args.font.now c.args.l c.args.text.now in
     let sheet = sheet_of c.args.keep.now c.args.flip.now in
     let number = c.in_err-v.ensures.number in
-    let same = slices _ _ (gather-refused c.args.s call sheet _ number) in
+    let same = slices _ _ (gather-refused c.args.s call sheet _ number (number-not-0 _)) in
     let reply = reply-refused call _ number c.args.s (lengths sheet) in
     rw (stopped.1, stopped.2)
     (record {
