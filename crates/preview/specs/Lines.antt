@@ -45,7 +45,8 @@ abbrev pub nothing_read : ReadFailed
 nothing_read = record { bytes = 0 }
 
 -- What painting all lines leaves, with counts that are zeros at first: for the bytes that were read, which no contract can name, all of
--- their lines are painted where every read went well; else those that had ended. The counts that are answered are those that they leave.
+-- their lines are painted where every read went well; else those that had ended. The counts that are answered are those that they leave,
+-- and of a read that failed no byte is told.
 pub record Painted (font : List ℕ) (s : Shape) (panel : List ℕ) (answer : Answer) (after : List ℕ) : Type 0 where
   pub read : List ℕ
   pub bytes : Bytes read
